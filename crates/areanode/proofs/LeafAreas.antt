@@ -13,7 +13,7 @@ use Rattle.areanode.specs.Cuts.{low_on, high_on, cut_of, set_on, part_above, par
 use Rattle.areanode.specs.Trees.{child_above, child_below, leaf_node, reaches, has_leaf, region_has_leaf}
 use Rattle.areanode.specs.Areas.{area_of}
 use Rattle.areanode.specs.LeafAreas.{touches_flat, leaf_area, TouchesArena}
-use Rattle.areanode.specs.Laws.{LeavesAreWhereTheBoxTouches, RegionHasTheLeavesThatItTouches}
+use Rattle.areanode.specs.Laws.{LeavesAreWhereTheBoxTouches, LeavesLieInTheArena, RegionHasTheLeavesThatItTouches}
 use Rattle.areanode.proofs.Words.{word_has_its_bits}
 use Rattle.areanode.proofs.Parts.{cut_is_between}
 use Rattle.areanode.proofs.Nodes.{parent-child_above, parent-child_below}
@@ -78,6 +78,15 @@ covers_more a b c h k = record {
   x_to = at_most _ _ _ k.x_to h.x_to;
   y_from = at_most _ _ _ h.y_from k.y_from;
   y_to = at_most _ _ _ k.y_to h.y_to;
+}
+
+-- what touches the second touches the first
+touches_more : (a c b : Bounds) → Covers a c → Touching c b → Touching a b
+touches_more a c b covers t = record {
+  x_from = at_most _ _ _ covers.x_from t.x_from;
+  x_to = at_most _ _ _ t.x_to covers.x_to;
+  y_from = at_most _ _ _ covers.y_from t.y_from;
+  y_to = at_most _ _ _ t.y_to covers.y_to;
 }
 
 -- ---- the parts of an area
@@ -241,6 +250,14 @@ leaves_are_where_the_box_touches tree b leaf ordered arena below =
     same_tests (has_leaf tree b leaf) (touches_flat (leaf_area tree leaf) b)
     (λ has. touching_passes (leaf_area tree leaf) b (reached_is_touched tree.depth 0 tree.depth 0 tree.bounds b end sum (touching tree.bounds b arena) has))
     (λ touch. is_below.reached (touching (leaf_area tree leaf) b touch))
+
+pub leaves_lie_in_the_arena : LeavesLieInTheArena
+unfolding area_of
+leaves_lie_in_the_arena tree b leaf ordered below touch =
+    let end = leaf_node tree.depth leaf in
+    let sum : 0 + tree.depth ≡ tree.depth = omega arith in
+    let is_below = touched_is_reached tree.depth 0 tree.depth 0 tree.bounds b end sum ordered (leaf_is_under tree.depth leaf below) in
+    touching_passes tree.bounds b (touches_more tree.bounds (leaf_area tree leaf) b is_below.covers (touching (leaf_area tree leaf) b touch))
 
 -- tests that agree on a list's elements
 some_alike : (p q : Bounds → Bool) (region : List Bounds) (holds : Bounds → Type 0) → All holds region

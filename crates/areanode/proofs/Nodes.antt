@@ -168,10 +168,6 @@ is_under (suc levels) node area b end h =
     record { least = rw (pow-suc 2 levels) both.0; most = rw (pow-suc 2 levels) both.1 })
     h
 
--- the node is one of the tree's from this node on
-IsWithin : ℕ → ℕ → ℕ → Type 0
-IsWithin levels node other = other + 2 ≤ (node + 2) * 2 ^ levels
-
 within_itself : (node p : ℕ) → 0 < p → node + 2 ≤ (node + 2) * p
 within_itself node p h = grind arith
 

@@ -99,7 +99,14 @@ LeavesAreWhereTheBoxTouches =
     (tree : TreeView) (b : Bounds) (leaf : ℕ) → IsOrdered tree.bounds → TouchesArena tree b → leaf < 2 ^ tree.depth
     → has_leaf tree b leaf ≡ touches_flat (leaf_area tree leaf) b
 
--- in the word of a region's leaves, those are set whose areas a box of the region touches
+-- a box that touches the area of a leaf touches the arena, both seen from above
+abbrev pub LeavesLieInTheArena : Type 0
+LeavesLieInTheArena =
+    (tree : TreeView) (b : Bounds) (leaf : ℕ) → IsOrdered tree.bounds → leaf < 2 ^ tree.depth
+    → touches_flat (leaf_area tree leaf) b ≡ true → TouchesArena tree b
+
+-- in the word of the leaves of a region, each box of which touches the arena, exactly those are set whose areas a box of
+-- the region touches
 abbrev pub RegionHasTheLeavesThatItTouches : Type 0
 RegionHasTheLeavesThatItTouches =
     (tree : TreeView) (region : List Bounds) (leaf : ℕ) → IsOrdered tree.bounds → All (TouchesArena tree) region

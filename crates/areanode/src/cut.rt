@@ -7,14 +7,18 @@ use arena_geo::{Aabb, Vec3};
 /// The axis on which an area is cut.
 #[derive(Clone, Copy, Debug, PartialEq, Eq)]
 pub enum Axis {
+    /// The area is cut by its x coordinates.
     X,
+    /// The area is cut by its y coordinates.
     Y,
 }
 
-/// Where an area is cut in two: at `dist` on `axis`, in sub-units.
+/// Where an area is cut in two.
 #[derive(Clone, Copy, Debug, PartialEq, Eq)]
 pub struct Cut {
+    /// The axis that the plane of the cut is square to.
     pub axis: Axis,
+    /// Where the plane is on that axis, in sub-units.
     pub dist: i32,
 }
 

@@ -2,7 +2,7 @@ ghost use Rattle.areanode.specs.Laws.{AreasAreCutInHalf, AreasHaveTheirParts, Bo
 ghost use Rattle.areanode.specs.Laws.{LeavesAreOnItsSide, NodeIsOverLeaves, TouchingBoxesShareALeaf, TouchedNodeIsVisited, BoxHasALeaf};
 ghost use Rattle.areanode.specs.Laws.{TouchedLeafIsListed, InsideAndTouchedShareALeaf, LeavesAreInRange, NodeIsInRange};
 ghost use Rattle.areanode.specs.Laws.{LeavesAreWhereTheBoxTouches, RegionHasTheLeavesThatItTouches, LeavesAreReachedAtEachCut};
-ghost use Rattle.areanode.specs.Laws.{LeafOverLeaf, WordHasItsBits, WordFits, SizesAreKnown};
+ghost use Rattle.areanode.specs.Laws.{LeavesLieInTheArena, LeafOverLeaf, WordHasItsBits, WordFits, SizesAreKnown};
 
 /// An area is cut halfway on the longer of the axes x and y, and on y where neither is longer: it reaches as far beyond
 /// the cut as before it, or farther by 1.
@@ -64,6 +64,11 @@ pub fn inside_and_touched_share_a_leaf()
 /// A box that touches the arena has exactly the leaves whose areas it touches, seen from above and the edges counted.
 pub fn leaves_are_where_the_box_touches()
     ensures { LeavesAreWhereTheBoxTouches }
+{}
+
+/// A box that touches the area of a leaf touches the arena, both seen from above.
+pub fn leaves_lie_in_the_arena()
+    ensures { LeavesLieInTheArena }
 {}
 
 /// In the word of a region's leaves, where each box of the region touches the arena, exactly those are set whose areas a

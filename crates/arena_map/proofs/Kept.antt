@@ -51,13 +51,6 @@ kept-with_spawn arena solids spawns things entities shafts settings at new kept 
 
 -- ---- settings
 
--- what is kept with other settings, where the map with them keeps the rules
-pub kept-with_settings : (arena : Bounds) (solids : List Bounds) (spawns : List Vec3) (things : List MapLine) (entities : List Rec) (shafts : List Bounds) (settings new : Settings)
-    → IsKept arena solids spawns things entities shafts settings → IsMap (map_of arena (drop 6 solids) spawns things new)
-    → IsKept arena solids spawns things entities shafts new
-kept-with_settings arena solids spawns things entities shafts settings new kept is =
-    record { solids_are = kept.solids_are; entities_are = kept.entities_are; shafts_are = kept.shafts_are; is_map = is }
-
 -- ---- things
 
 -- the records of one thing more

@@ -56,8 +56,8 @@ pub fn lines_give_their_things()
     ensures { LinesGiveTheirThings }
 {}
 
-/// A map has at most 1,024 blocks, 64 spawns, 400 items, 16 teleporters, goals and lifts each, and so 448 things; the depth
-/// of its tree is 4 where no line says so.
+/// The limits of a map have the values that the documents say: 1,024 blocks, 64 spawns, 400 items, 16 teleporters, 16 goals
+/// and 16 lifts, and so 448 things; and 4 is the depth of the tree where no line names one. That a map keeps them: `IsMap`.
 pub fn limits_are_known()
     ensures { LimitsAreKnown }
 {}

@@ -15,7 +15,7 @@ pub use map::ArenaMap;
 pub use map_fault::{MapFault, MapRefusal};
 pub use map_line::MapLine;
 pub use map_word::{MapField, MapWord};
-pub use reading::read_map_line;
+pub use reading::{NO_FORM, NO_WORD, OUT_OF_LIMIT, read_map_line};
 pub use spelling::print_map_line;
 
 mod laws;

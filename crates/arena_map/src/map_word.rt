@@ -8,14 +8,23 @@ use entity_recs::Kind;
 /// The word with which a line of a map begins.
 #[derive(Clone, Copy, Debug, PartialEq, Eq)]
 pub enum MapWord {
+    /// The box of the arena.
     Arena,
+    /// A block, which no body enters.
     Block,
+    /// A place where players join.
     Spawn,
+    /// Ammunition or a gem.
     Item,
+    /// A teleporter with its destination.
     Teleport,
+    /// A goal.
     Goal,
+    /// A lift.
     Lift,
+    /// The depth of the tree of areanodes.
     Depth,
+    /// That players may shoot.
     Shots,
 }
 

@@ -26,14 +26,14 @@ const HIGHEST_RISE: u32 = 1_048_576;
 /// The most that a lift moves in a frame, in sub-units.
 const FASTEST: u32 = 2_560;
 
-/// The fault of a line whose first word is no word.
-const NO_WORD: u8 = 3;
+/// The fault of a line whose first word is no word of a map.
+pub const NO_WORD: u8 = 3;
 
 /// The fault of a line that has too few or too many fields, or a field that isn't a number or a kind.
-const NO_FORM: u8 = 4;
+pub const NO_FORM: u8 = 4;
 
 /// The fault of a line with a number out of its limit.
-const OUT_OF_LIMIT: u8 = 6;
+pub const OUT_OF_LIMIT: u8 = 6;
 
 /// Whether the text is one for this field.
 fn is_field(field: MapField, text: &[u8]) -> bool

@@ -1,4 +1,4 @@
-ghost use Rattle.std.specs.Prelude.{◌≡◌, ◌≤◌, ◌≤ℤ◌, true, pos, unsigned_abs, length};
+ghost use Rattle.std.specs.Prelude.{◌≡◌, ◌≤◌, ◌≤ℤ◌, true, pos, unsigned_abs};
 ghost use Rattle.arena_geo.specs.Vectors.{IsNear};
 ghost use Rattle.arena_geo.specs.Bounds.{bounds};
 ghost use Rattle.arena_map.specs.MapLines.{IsWithinLimits};

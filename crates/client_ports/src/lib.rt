@@ -12,7 +12,7 @@ pub use laws::{
     refusals_have_their_places, slot_is_least_free, states_stay_valid,
 };
 pub use ports::{MOST_MOVES, Ports};
-pub use received::{Joined, Received, Refused};
+pub use received::{Joined, MOST_FRAME_MOVES, Received, Refused};
 pub use refusal::Refusal;
 pub use spawns::Place;
 

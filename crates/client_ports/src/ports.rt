@@ -1,4 +1,4 @@
-ghost use Rattle.std.specs.Prelude.{◌≡◌, ◌<◌, ◌≤◌, IfOk, IfSome, IsSome, None, is_some, length, slice_set};
+ghost use Rattle.std.specs.Prelude.{◌≡◌, ◌<◌, ◌≤◌, IfOk, IfSome, IsSome, None, length, slice_set};
 ghost use Rattle.client_ports.specs.Clients as clients;
 ghost use Rattle.client_ports.specs.Clients.{no_clients, client_at, ports_of, live_slot, new_client, with_client};
 ghost use Rattle.client_ports.specs.Clients.{AreClients, IsUpdate, IsPlaceFor};
@@ -117,15 +117,6 @@ impl Ports {
         ensures apart { AreClients self.now }
     {
         &self.clients
-    }
-
-    /// Whether this slot is live.
-    pub fn is_live(&self, slot: u8) -> bool
-        requires { slot < 64 }
-        ensures value { result ≡ is_some (client_at self.now slot) }
-        ensures apart { AreClients self.now }
-    {
-        self.client_at(slot).is_some()
     }
 
     /// The client of this slot, and `None` exactly where the slot isn't live.

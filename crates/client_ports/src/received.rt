@@ -1,14 +1,15 @@
-ghost use Rattle.std.specs.Prelude.{◌≡◌, ◌+◌, ◌<◌, ◌≤◌, ℕ, [], ◌∷◌, length, map, IfOk};
+ghost use Rattle.std.specs.Prelude.{◌≡◌, ◌<◌, [], ◌∷◌, length, map, IfOk};
 ghost use Rattle.entity_recs.specs.Commands.{command_of};
 ghost use Rattle.client_ports.specs.Lists.{no_lists, with_moves, with_join, with_refusal, received_view, room_for};
 
+use crate::ports::MOST_MOVES;
 use crate::refusal::Refusal;
-use entity_recs::Cmd;
+use entity_recs::{Cmd, SLOTS};
 use std::alloc::{AllocError, Global};
 use std::marker::Model;
 
-/// The most moves that a frame can have: 8 for each of 64 slots.
-const MOST_FRAME_MOVES: usize = 512;
+/// The most moves that a frame can have: 512, the most of a client in each slot.
+pub const MOST_FRAME_MOVES: usize = MOST_MOVES as usize * SLOTS;
 
 /// A packet that was refused.
 #[derive(Clone, Copy, Debug, PartialEq, Eq)]

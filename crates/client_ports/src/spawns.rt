@@ -1,9 +1,8 @@
-ghost use Rattle.std.specs.Prelude.{◌≡◌, All, IfSome};
-ghost use Rattle.arena_geo.specs.Vectors.{IsNear};
+ghost use Rattle.std.specs.Prelude.{◌≡◌, IfSome};
 ghost use Rattle.arena_map.specs.Maps.{solids_of, IsSpawn};
 ghost use Rattle.client_ports.specs.Answers as answers;
 
-use arena_geo::{Aabb, Vec3};
+use arena_geo::Vec3;
 use arena_map::ArenaMap;
 use entity_recs::player_box;
 use world_tree::World;

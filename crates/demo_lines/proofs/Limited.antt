@@ -1,10 +1,9 @@
 -- A recording with a limit on its frames, and the same bytes with another limit.
-use Rattle.std.proofs.Common.{◌≡◌, ℕ, ◌+◌, ◌≤◌, ◌<◌, Bool, true, false, not, nat_le, List, [], ◌∷◌, ◌++◌, Option, Some, None, option_map, bytes_eq, codes, refl, sym, ap, ◌∙◌, subst, cond, arith, count_by, length-append}
+use Rattle.std.proofs.Common.{◌≡◌, ℕ, ◌+◌, ◌≤◌, Bool, true, false, not, nat_le, List, [], ◌∷◌, ◌++◌, Option, Some, None, option_map, bytes_eq, codes, refl, sym, ap, ◌∙◌, cond, arith, count_by}
 use Rattle.std.specs.Option.{option_or}
 use Rattle.std.proofs.lemmas.Bool.Decides.{nat_tests}
 use Rattle.std.proofs.lemmas.List.Sums.{sum_by-append}
 use Rattle.arena_map.specs.declared.limits.TheConstants.{MOST_FRAMES}
-use Rattle.packet_read.specs.declared.arrival.TheConstants.{MOST_ARRIVALS}
 use Rattle.demo_lines.specs.declared.stage.Stage.{Stage}
 use Rattle.demo_lines.specs.declared.stage.Stage.TheVariants.{Start, Map, Playing, Ended, Refused}
 use Rattle.demo_lines.specs.declared.line.Line.{Line}
@@ -14,13 +13,12 @@ use Rattle.demo_lines.specs.declared.line_fault.LineFault.TheVariants as faults
 use Rattle.demo_lines.specs.declared.word.Word as word_types
 use Rattle.demo_lines.specs.declared.word.Word.TheVariants as words
 use Rattle.demo_lines.specs.declared.event.Event.{Event}
-use Rattle.demo_lines.specs.declared.event.Event.TheVariants as events
 use Rattle.demo_lines.specs.Known.{Reading, start_within, start, is_over, is_refused, at_stage}
 use Rattle.demo_lines.specs.Words.{has_form, is_allowed}
 use Rattle.demo_lines.specs.Lines.{text_of, first_word, rest_of, is_end, line_of_first, line_in}
 use Rattle.demo_lines.specs.Faults.{is_long, is_cut, has_strange_byte, is_out_of_limit, broken_by, has_no_packet, is_one_too_many, fault_after_word, fault_of_words, fault_of}
 use Rattle.demo_lines.specs.Recording.{next, after_line, after_test, event_of, opens_frame, events_of_test, events_of_line, after, events_of}
-use Rattle.demo_lines.specs.Bytes.{LineRefusal, refusal, refused_at, refused_where, last_part, lines_of, fault_within, map_within, events_within, fault, map_of, events}
+use Rattle.demo_lines.specs.Bytes.{LineRefusal, refusal, refused_at, refused_where, last_part, lines_of, fault_within, fault, events}
 use Rattle.demo_lines.specs.Laws.{IsSameRecording, LimitsCutNothing}
 use Rattle.demo_lines.proofs.Prefixes.{bytes_eq-same}
 use Rattle.demo_lines.proofs.Ends.{next-over, events_of_line-over, after-over, over_refused}

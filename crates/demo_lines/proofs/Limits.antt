@@ -1,10 +1,10 @@
 -- A limit of frames decides which frame is one too many, and nothing else.
-use Rattle.std.proofs.Common.{◌≡◌, ℕ, false, List, [], ◌∷◌, Option, Some, None, Result, Ok, Err, IfOk, refl, ◌∙◌}
+use Rattle.std.proofs.Common.{◌≡◌, ℕ, false, List, Option, Some, None, Result, Ok, Err, IfOk, refl}
 use Rattle.demo_lines.specs.declared.line.Line.{Line}
 use Rattle.demo_lines.specs.declared.line.Line.TheVariants.{OfMap, Frame, From, End}
 use Rattle.demo_lines.specs.declared.line_fault.LineFault.{LineFault}
 use Rattle.demo_lines.specs.Known.{Reading, is_over}
-use Rattle.demo_lines.specs.Recording.{next, after_test, after}
+use Rattle.demo_lines.specs.Recording.{next, after_test}
 use Rattle.demo_lines.specs.Said.{place_fault, after_said}
 use Rattle.demo_lines.proofs.Taking.{IsTaken}
 use Rattle.demo_lines.proofs.MapGiven.{after_any_line}
@@ -23,7 +23,3 @@ said-limit r (Err why) going is = refl
 -- a line leaves the limit
 pub next-limit : (r : Reading) (raw : List ℕ) → (next r raw).limit ≡ r.limit
 next-limit r raw = after_any_line (λ r s. s.limit ≡ r.limit) (λ r over. refl) (λ r going. refl) said-limit r raw
-
-pub after-limit : (r : Reading) (lines : List (List ℕ)) → (after r lines).limit ≡ r.limit
-after-limit r [] = refl
-after-limit r (line ∷ lines) = after-limit (next r line) lines ∙ next-limit r line

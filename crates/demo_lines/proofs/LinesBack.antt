@@ -24,7 +24,7 @@ use Rattle.demo_lines.specs.declared.line.Line.{Line}
 use Rattle.demo_lines.specs.declared.line.Line.TheVariants.{OfMap, Frame, From, End}
 use Rattle.demo_lines.specs.Packets.{packet_bytes}
 use Rattle.demo_lines.specs.Words.{word_in, from_fields, has_form}
-use Rattle.demo_lines.specs.Lines.{text_of, first_word, rest_of, line_of, line_in}
+use Rattle.demo_lines.specs.Lines.{text_of, first_word, rest_of, line_of}
 use Rattle.demo_lines.specs.Lines as lines
 use Rattle.demo_lines.specs.Faults.{is_long}
 use Rattle.demo_lines.specs.Spelling.{line_text, IsLine}

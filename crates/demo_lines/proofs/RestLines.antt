@@ -1,21 +1,18 @@
 -- Parts of a line that follows a recording, read one after another.
 use Rattle.std.proofs.Common.{◌≡◌, ℕ, ◌≤◌, ◌<◌, ◌==◌, true, false, List, [], ◌∷◌, ◌++◌, length, Option, Some, None, IfSome, sym, ap, ◌∙◌, subst, append_assoc, length-append, arith}
 use Rattle.std.specs.Io.KnownBytes.{Consumes, IsAtEnd, prepend_known}
-use Rattle.std.proofs.KnownBytes.{Consumes-trans, Consumes-nil}
-use Rattle.std.proofs.lemmas.List.Elements.{All-nil, All-append, All-head, All-tail}
+use Rattle.std.proofs.KnownBytes.{Consumes-trans}
+use Rattle.std.proofs.lemmas.List.Elements.{All-append, All-head, All-tail}
 use Rattle.edge_io.specs.Lines.{HasNoLineFeed, GivesLine, GivesLongFront, GivesLastPart, OnWhole, OnLong, OnEnded}
 use Rattle.edge_io.specs.declared.line_reader.NextLine.{NextLine}
 use Rattle.edge_io.specs.declared.line_reader.NextLine.TheVariants.{Whole, Long, Ended}
 use Rattle.demo_lines.specs.declared.rest.TheConstants.{LONGEST_REST}
-use Rattle.demo_lines.specs.Rest.{GivesRestLine, HasNoRestLine}
+use Rattle.demo_lines.specs.Rest.{HasNoRestLine}
 
 -- the front of a line was taken off what was ahead
 pub record TakesFront (old new : Option (List ℕ)) (front : List ℕ) : Type 0 where
   pub consumed : Consumes old new front
   pub one_line : HasNoLineFeed front
-
-pub no_front : (a : Option (List ℕ)) → TakesFront a a []
-no_front a = record { consumed = Consumes-nil a; one_line = All-nil (λ b. (b == 10) ≡ false) }
 
 both_without : (xs ys : List ℕ) → HasNoLineFeed xs → HasNoLineFeed ys → HasNoLineFeed (xs ++ ys)
 both_without xs ys one more = All-append (λ b. (b == 10) ≡ false) xs ys one more
@@ -25,15 +22,6 @@ pub longer_front : (a b c : Option (List ℕ)) (front part : List ℕ) → Takes
 longer_front a b c front part is consumed one_line = record {
   consumed = Consumes-trans a b c front part is.consumed consumed;
   one_line = both_without front part is.one_line one_line;
-}
-
--- the last part, and the line feed
-pub line_of : (a b c : Option (List ℕ)) (front part : List ℕ) → TakesFront a b front → Consumes b c (part ++ 10 ∷ []) → HasNoLineFeed part → length (front ++ part) ≤ LONGEST_REST
-    → GivesRestLine a c (front ++ part)
-line_of a b c front part is consumed one_line fits = record {
-  consumed = subst (Consumes a c) (sym (append_assoc front part (10 ∷ []))) (Consumes-trans a b c front (part ++ 10 ∷ []) is.consumed consumed);
-  one_line = both_without front part is.one_line one_line;
-  fits = fits;
 }
 
 -- a line is as long as each front of it without a line feed

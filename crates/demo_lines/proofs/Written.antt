@@ -36,7 +36,7 @@ use Rattle.demo_lines.specs.declared.line_fault.LineFault.{LineFault}
 use Rattle.demo_lines.specs.declared.line_fault.LineFault.TheVariants as faults
 use Rattle.demo_lines.specs.Packets.{packet_bytes}
 use Rattle.demo_lines.specs.Words.{word_in, is_arena_word, is_nothing, from_fields, has_form, is_allowed}
-use Rattle.demo_lines.specs.Lines.{text_of, are_printable, first_word, rest_of, from_of, line_in}
+use Rattle.demo_lines.specs.Lines.{are_printable, first_word, rest_of, from_of}
 use Rattle.demo_lines.specs.Lines as lines
 use Rattle.demo_lines.specs.Said.{of_map, packet_said, port_said, from_said, word_said, first_said, line_said}
 use Rattle.demo_lines.specs.Spelling.{packet_text, line_text, IsArrival, IsLine}

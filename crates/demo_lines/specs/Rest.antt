@@ -5,7 +5,7 @@ use Rattle.edge_io.specs.Lines.{HasNoLineFeed}
 use Rattle.demo_lines.specs.declared.rest.TheConstants.{LONGEST_REST}
 use Rattle.demo_lines.specs.Reads.{DemoReaderView}
 
--- no read has failed, and where the reader was told that no line follows, the input ended with the recording
+-- no read has failed, and where the reader was told that no line follows, nothing is left ahead
 pub record HasRest (demo : DemoReaderView) (ahead : Option (List ℕ)) : Type 0 where
   pub no_stop : demo.stop ≡ None
   pub at_end : demo.cut ≡ true → IsAtEnd ahead

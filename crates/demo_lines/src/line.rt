@@ -1,4 +1,4 @@
-ghost use Rattle.std.specs.Prelude.{◌≡◌, ◌+◌, ◌≤◌, Some, Err, Ok, false, true, length, option_map, IfOk, IfSome, ok_or};
+ghost use Rattle.std.specs.Prelude.{◌≡◌, ◌+◌, ◌≤◌, Some, Err, Ok, false, length, option_map, IfOk, IfSome, ok_or};
 ghost use Rattle.edge_io.specs.Fields as fields;
 ghost use Rattle.edge_io.specs.Numbers.{natural_up_to};
 ghost use Rattle.arena_map.specs.MapLines.{IsWithinLimits};
@@ -6,7 +6,6 @@ ghost use Rattle.arena_map.specs.Words.{map_word};
 ghost use Rattle.arena_map.specs.Reading.{is_word_of_play};
 ghost use Rattle.demo_lines.specs.Lines as lines;
 ghost use Rattle.demo_lines.specs.Words as words;
-ghost use Rattle.demo_lines.specs.Words.{word_in};
 ghost use Rattle.demo_lines.specs.Said as said;
 ghost use Rattle.demo_lines.specs.Readings.{IsPlaced, IsOfMap};
 
@@ -14,12 +13,9 @@ use crate::line_fault::LineFault;
 use crate::packet::packet_of;
 use crate::stage::Stage;
 use crate::word::Word;
-use arena_map::{MapLine, MapWord, read_map_line};
+use arena_map::{MapLine, MapWord, NO_FORM, read_map_line};
 use edge_io::{LONGEST, cut, field_at, is_integer, natural};
 use packet_read::Arrival;
-
-/// The number that [`read_map_line`] answers where the fields of a line have no form.
-const NO_FORM: u8 = 4;
 
 /// What one line of a recording says. It is a type beside [`Event`](crate::Event), since it has the lines of the map too,
 /// which the reader keeps for itself: it tests them against the map so far, and adds them to it.
@@ -67,6 +63,7 @@ fn in_order(read: Result<MapLine, u8>, is_here: bool) -> Result<MapLine, LineFau
     match read {
         Err(NO_FORM) => Err(LineFault::Form),
         _ if !is_here => Err(LineFault::Place),
+        // The first word is one of a map, so that its fault is `OUT_OF_LIMIT`: no other one is left.
         Err(_) => Err(LineFault::Limit),
         Ok(line) => Ok(line),
     }

@@ -9,7 +9,7 @@ ghost use Rattle.demo_lines.specs.Known as known;
 ghost use Rattle.demo_lines.specs.Faults as faults;
 ghost use Rattle.demo_lines.specs.Recording as recording;
 ghost use Rattle.demo_lines.specs.Said as said;
-ghost use Rattle.demo_lines.specs.Readings.{IsReading, IsPlaced, IsOfMap};
+ghost use Rattle.demo_lines.specs.Readings.{IsReading, IsPlaced};
 ghost use Rattle.demo_lines.specs.Reads.{IsQuiet};
 
 use crate::event::Event;

@@ -11,8 +11,11 @@ use arena_map::MapWord;
 pub enum Word {
     /// A word of the map.
     OfMap(MapWord),
+    /// A frame begins.
     Frame,
+    /// A packet from a port.
     From,
+    /// The recording ends.
     End,
 }
 

@@ -9,6 +9,7 @@ use Rattle.entity_recs.specs.declared.kind.Kind.TheVariants.{Player, Ammo, Gem}
 use Rattle.entity_recs.specs.declared.rec.Rec.{Rec}
 use Rattle.entity_recs.specs.declared.bodies.TheConstants.{PLAYER_MINS, PLAYER_MAXS, ITEM_MINS, ITEM_MAXS, ITEM_GROWTH}
 use Rattle.entity_recs.specs.declared.bodies.TheConstants.{GROWTH}
+use Rattle.entity_recs.specs.declared.limits.TheConstants.{SLOTS, IDS}
 use Rattle.entity_recs.specs.Records.{IsRecord, with_state}
 use Rattle.entity_recs.specs.Bodies.{body_of, abs_of}
 
@@ -29,7 +30,7 @@ AbsIgnoresState = (r : Rec) (state : ℕ) → abs_of (with_state r state) ≡ ab
 abbrev pub AbsContainsBody : Type 0
 AbsContainsBody = (r : Rec) → contains (abs_of r) (body_of r) ≡ true
 
--- the constants of bodies and of absolute boxes have these values
+-- the constants of bodies and of absolute boxes, and how many slots and ids there are, have these values
 pub record SizesAreKnown : Type 0 where
   pub player_low : PLAYER_MINS ≡ record { x = neg_ℤ (pos 4096); y = neg_ℤ (pos 4096); z = neg_ℤ (pos 6144) }
   pub player_high : PLAYER_MAXS ≡ record { x = pos 4096; y = pos 4096; z = pos 8192 }
@@ -37,6 +38,8 @@ pub record SizesAreKnown : Type 0 where
   pub item_high : ITEM_MAXS ≡ record { x = pos 8192; y = pos 8192; z = pos 14336 }
   pub item_growth : ITEM_GROWTH ≡ record { x = pos 3840; y = pos 3840; z = pos 0 }
   pub growth : GROWTH ≡ record { x = pos 256; y = pos 256; z = pos 256 }
+  pub slots : SLOTS ≡ 64
+  pub ids : IDS ≡ 512
 
 -- an item: ammunition or a gem
 abbrev pub IsItem : Kind → Type 0

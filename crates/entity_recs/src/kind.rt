@@ -3,11 +3,17 @@ ghost use Rattle.std.specs.Prelude.{◌≡◌};
 /// What a record is. A player and a lift are solids, the others are triggers; ammunition and gems are items.
 #[derive(Clone, Copy, Debug, PartialEq, Eq)]
 pub enum Kind {
+    /// A player: a solid, 0 in a snapshot.
     Player = 0,
+    /// An item of ammunition: a trigger, 1 in a snapshot.
     Ammo = 1,
+    /// A gem, an item that scores at a goal: a trigger, 2 in a snapshot.
     Gem = 2,
+    /// What moves the players that touch it: a trigger, 3 in a snapshot.
     Teleporter = 3,
+    /// Where gems become a score: a trigger, 4 in a snapshot.
     Goal = 4,
+    /// A box that goes up and down: a solid, 5 in a snapshot.
     Lift = 5,
 }
 

@@ -1,5 +1,9 @@
 ghost use Rattle.entity_recs.specs.Laws.{RecordsHaveBoxes, AbsIgnoresState, AbsContainsBody, SizesAreKnown};
 ghost use Rattle.entity_recs.specs.Laws.{BoxesAreKnown};
+ghost use Rattle.std.specs.Prelude.{◌≡◌, Ok};
+
+use crate::rec::Rec;
+use std::alloc::AllocError;
 
 /// The body and the absolute box of a record within its bounds are boxes: ordered on every axis, and in range.
 pub fn records_have_boxes()
@@ -18,7 +22,7 @@ pub fn abs_contains_body()
 
 /// The constants of bodies and of absolute boxes: `PLAYER_MINS` is (-4096, -4096, -6144) and `PLAYER_MAXS` (4096, 4096,
 /// 8192), `ITEM_MINS` is (0, 0, 0) and `ITEM_MAXS` (8192, 8192, 14336), and the two growths are (3840, 3840, 0) and (256,
-/// 256, 256).
+/// 256, 256). There are 64 slots, `SLOTS`, and 512 ids, `IDS`.
 pub fn sizes_are_known()
     ensures { SizesAreKnown }
 {}
@@ -29,3 +33,10 @@ pub fn sizes_are_known()
 pub fn boxes_are_known()
     ensures { BoxesAreKnown }
 {}
+
+/// A clone of a record is that record, and making it can't fail.
+pub fn clones_are_the_records(r: &Rec) -> Result<Rec, AllocError>
+    ensures { result ≡ Ok r.now }
+{
+    r.clone()
+}

@@ -1,6 +1,5 @@
 use crate::kind::Kind;
 use arena_geo::Vec3;
-use std::alloc::AllocError;
 
 /// One entity: a player in its slot, or a thing of the map. Lengths are in sub-units, velocities in sub-units a second.
 ///
@@ -33,15 +32,4 @@ pub struct Rec {
     /// For a taken item the frame in which it returns; for a lift 0 where it rises and 1 where it falls; for a player on a
     /// map with shots its damage, below 100, or 100 and the frame from which on it moves again; else 0.
     pub state: u64,
-}
-
-impl Rec {
-    ghost use Rattle.std.specs.Prelude.{◌≡◌};
-
-    /// A clone of the record: the record itself. It takes no memory and never fails.
-    pub fn cloned(&self) -> Result<Rec, AllocError>
-        ensures { result ≡ Ok self.now }
-    {
-        self.clone()
-    }
 }

@@ -1,4 +1,4 @@
-ghost use Rattle.std.specs.Prelude.{◌≡◌, ◌↔◌, ◌<◌, Some, None, Err, IsTrue, IsSome, IfOk, IfSome, true, false};
+ghost use Rattle.std.specs.Prelude.{◌≡◌, ◌↔◌, ◌<◌, Some, None, Err, IsSome, IfOk, IfSome, true, false};
 ghost use Rattle.entity_slots.specs.declared.join_fault.JoinFault.TheVariants.{Already, Full};
 ghost use Rattle.entity_slots.specs.Ports as slots;
 ghost use Rattle.entity_slots.specs.Ports.{no_ports, port_at, is_joined, is_full, with_port, without_slot};
