@@ -76,11 +76,6 @@ overlapping_is_marked index place look solid i x y in_x in_y is h =
     (subst (λ (n : ℕ). strip_of index.y solid.lo.y ≤ n) (sym is.last_y) (strips_rise index.y _ _ (begins_before place.lo.y place.hi.y solid.lo.y solid.hi.y on.y)))
     (subst (λ (n : ℕ). n ≤ strip_of index.y solid.hi.y) (sym is.first_y) (strips_rise index.y _ _ (ends_after place.lo.y place.hi.y solid.lo.y solid.hi.y on.y))))
 
--- what isn't marked doesn't overlap
-pub unmarked_is_apart : (test : Bool) (bit : ℕ) → (test ≡ true → bit ≡ 1) → bit ≡ 0 → test ≡ false
-unmarked_is_apart true bit marked unmarked = absurd (omega (arith, marked refl, unmarked))
-unmarked_is_apart false bit marked unmarked = refl
-
 -- one solid more that isn't missed
 pub one_more : (old new : Strips) (lo hi : ℕ → ℤ) (i : ℕ) (from to : ℤ) → AddsSolids old new → ((j : ℕ) → j < i → HasInterval old j (lo j) (hi j)) → HasInterval new i from to → from ≡ lo i → to ≡ hi i
     → (j : ℕ) → j < i + 1 → HasInterval new j (lo j) (hi j)

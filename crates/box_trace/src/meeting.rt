@@ -10,6 +10,7 @@ pub struct Meeting {
     pub step: u32,
     /// The place of the solid in its list.
     pub block: u16,
+    /// The solid itself.
     pub solid: Aabb,
 }
 

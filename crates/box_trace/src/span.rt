@@ -1,4 +1,4 @@
-ghost use Rattle.std.specs.Prelude.{◌≡◌, ◌<◌, ◌≤◌, unsigned_abs};
+ghost use Rattle.std.specs.Prelude.{◌≡◌, ◌<◌};
 ghost use Rattle.arena_geo.specs.Boxes as boxes;
 ghost use Rattle.box_trace.specs.Traces as traces;
 ghost use Rattle.box_trace.specs.Windows.{IsNearSpan, span, mirrored};
@@ -9,7 +9,9 @@ use arena_geo::Aabb;
 /// What a box takes up on one axis, in sub-units.
 #[derive(Clone, Copy)]
 pub struct Span {
+    /// Its low end.
     pub lo: i32,
+    /// Its high end.
     pub hi: i32,
 }
 

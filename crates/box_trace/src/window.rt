@@ -8,7 +8,9 @@ use crate::way::REACH;
 /// The steps from `from` on and before `to`.
 #[derive(Clone, Copy)]
 pub struct Window {
+    /// The first step of the window.
     pub from: u32,
+    /// The first step after it.
     pub to: u32,
 }
 

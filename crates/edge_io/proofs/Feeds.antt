@@ -1,7 +1,7 @@
 -- Bytes that are split into lines at their line feeds.
 use Rattle.std.proofs.Common.{◌≡◌, ℕ, Bool, true, false, List, [], ◌∷◌, ◌++◌, refl, sym, ap, ◌∙◌, append_assoc, append-nil, cond}
 use Rattle.std.specs.List.{slice_split, onto_first, AllByRecursion}
-use Rattle.std.proofs.lemmas.List.Splits.{slice_split_none, slice_split_at, slice_split-cons_no}
+use Rattle.std.proofs.lemmas.List.Splits.{slice_split_none, slice_split_at}
 use Rattle.std.proofs.lemmas.Grind.{flat_map-append}
 use Rattle.edge_io.specs.Lines.{HasNoLineFeed}
 use Rattle.edge_io.specs.WholeLines.{is_line_feed, all_but_last, whole_lines, unlines}
@@ -51,19 +51,6 @@ whole_lines-unlines (line ∷ lines) rest none =
 -- where there is no line feed there is no whole line
 pub whole_lines-none : (part : List ℕ) → HasNoLineFeed part → whole_lines part ≡ []
 whole_lines-none part none = ap all_but_last (slice_split_none is_line_feed part none)
-
--- bytes without a line feed go onto the first part
-parts-front : (part bytes : List ℕ) (first : List ℕ) (rest : List (List ℕ)) → AllByRecursion (λ b. is_line_feed b ≡ false) part
-    → slice_split is_line_feed bytes ≡ first ∷ rest → slice_split is_line_feed (part ++ bytes) ≡ (part ++ first) ∷ rest
-parts-front [] bytes first rest none is = is
-parts-front (b ∷ part) bytes first rest none is =
-    slice_split-cons_no is_line_feed b (part ++ bytes) none.0 ∙ ap (onto_first b) (parts-front part bytes first rest none.1 is)
-
--- a list of lines that is empty, or begins with a line that begins so
-pub record GoesOn (front : List ℕ) (lines : List (List ℕ)) : Type 0 where
-  pub more : List ℕ
-  pub rest : List (List ℕ)
-  pub is : lines ≡ (front ++ more) ∷ rest
 
 -- one more line
 pub unlines-push : (lines : List (List ℕ)) (line : List ℕ) → unlines (lines ++ line ∷ []) ≡ unlines lines ++ (line ++ 10 ∷ [])

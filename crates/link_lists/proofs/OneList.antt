@@ -1,5 +1,5 @@
 -- Lemmas about the ids of one list, in which no id is twice.
-use Rattle.std.proofs.Common.{◌≡◌, ◌≢◌, ℕ, zero, suc, ◌⊎◌, true, false, nat_eq, List, [], ◌∷◌, Some, None, slice_get, sym, refl, ap, ◌∙◌, subst, inl, inr, arith}
+use Rattle.std.proofs.Common.{◌≡◌, ◌≢◌, ℕ, zero, suc, ◌⊎◌, true, false, nat_eq, List, [], ◌∷◌, Some, slice_get, sym, refl, ap, ◌∙◌, subst, inl, inr, arith}
 use Rattle.std.specs.List.{IsDistinct, AllByRecursion}
 use Rattle.std.proofs.lemmas.Bool.{cases_Bool, cases_eq, or_from, or_left, or_right, or_parts, or_cases, eqb-true, eqb-false, eq-eqb, ne_eqb, false≢true}
 use Rattle.std.proofs.lemmas.Option.{none-some, same_Some}
@@ -48,14 +48,6 @@ has-before (x ∷ xs) a b e = elim (cases_Bool (nat_eq a x)) [
   | inl here ↦ or_left _ _ here
   | inr later ↦ or_right _ _ (has-before xs a b (grind arith))
 ]
-
--- nothing comes after an id that the list lacks
-pub after-lacks : (xs : List ℕ) (id : ℕ) → has xs id ≡ false → after id xs ≡ None
-after-lacks [] id h = refl
-after-lacks (x ∷ xs) id h =
-    let parts = or_parts (nat_eq id x) (has xs id) h in
-    let rest = after-lacks xs id parts.1 in
-    grind arith
 
 -- after the id at a place comes the id at the next place
 pub after-at : (xs : List ℕ) (i id : ℕ) → IsDistinct nat_eq xs → slice_get xs i ≡ Some id → after id xs ≡ slice_get xs (suc i)

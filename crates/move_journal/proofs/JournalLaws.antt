@@ -1,13 +1,11 @@
 -- The laws of journals, for callers in other crates.
-use Rattle.std.specs.Prelude.{◌≡◌, ℕ, ◌+◌, List, [], ◌∷◌, map}
-use Rattle.std.proofs.Common.{refl, sym, ap, subst}
+use Rattle.std.specs.Prelude.{List}
+use Rattle.std.proofs.Common.{sym, subst}
 use Rattle.std.proofs.lemmas.List.Elements.{All-from_recursion}
-use Rattle.entity_recs.specs.Histories.{Action, Item, IsLegal, apply}
-use Rattle.entity_recs.specs.Commands.{Command}
-use Rattle.entity_recs.specs.Worlds.{World}
+use Rattle.entity_recs.specs.Histories.{Item, IsLegal}
 use Rattle.move_journal.specs.Merges.{history_of}
 use Rattle.move_journal.specs.Laws.{MergesHaveWholeHistories, MovesInOrderAreRight, OrderLeavesOneJournal}
-use Rattle.move_journal.proofs.Founds.{IsFound, each_is_found, items_in_order, history_in_order}
+use Rattle.move_journal.proofs.Founds.{IsFound, each_is_found, history_in_order}
 use Rattle.move_journal.proofs.Orders.{legal_in_order, player_items_in_order, order_in_order, legal_from_first}
 use Rattle.move_journal.proofs.Uniques.{one_journal, legal_at_first}
 use Rattle.move_journal.proofs.WholeHistories.{whole_history}
@@ -34,8 +32,3 @@ moves_in_order_are_right = λ act w moves apart.
 pub order_leaves_one_journal : OrderLeavesOneJournal
 order_leaves_one_journal = λ act w moves journal apart right.
     one_journal act moves 0 w journal moves (each_is_found moves apart) right.order (legal_at_first act w (history_of moves journal) right.right.legal)
-
--- the commands of moves that are run in this order
-commands_in_order : (act : Action) (w : World) (place : ℕ) (commands : List Command) → map (λ item. item.command) (items_in_order act w place commands) ≡ commands
-commands_in_order act w place [] = refl
-commands_in_order act w place (c ∷ commands) = ap (λ (cs : List Command). c ∷ cs) (commands_in_order act (apply act w c) (place + 1) commands)

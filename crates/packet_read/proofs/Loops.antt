@@ -1,13 +1,12 @@
 -- What the loops over the commands of a packet of version 2 keep.
-use Rattle.std.proofs.Common.{◌≡◌, ◌∙◌, ℕ, suc, ◌+◌, ◌*◌, ◌<◌, ◌≤◌, List, [], ◌∷◌, ◌++◌, length, take, get_or, refl, sym, ap, subst, append_assoc, append-nil, arith}
+use Rattle.std.proofs.Common.{◌≡◌, ◌∙◌, ℕ, suc, ◌+◌, ◌*◌, ◌<◌, ◌≤◌, List, [], ◌∷◌, ◌++◌, length, take, get_or, sym, ap, subst, append_assoc, append-nil, arith}
 use Rattle.std.specs.Prelude.{zero, ℤ, ◌-◌, All, flat_map, drop}
-use Rattle.std.proofs.lemmas.List.{length-drop, length-append, length-take-le, take_all, take_more}
+use Rattle.std.proofs.lemmas.List.{length-drop, length-append, take_all, take_more}
 use Rattle.std.proofs.lemmas.List.Concat.{flat_map-append}
 use Rattle.std.proofs.lemmas.List.Elements.{All-nil, All-cons, All-append}
 use Rattle.packet_read.specs.declared.block_list.CmdBlock.{CmdBlock}
 use Rattle.packet_read.specs.Spelling.{block_fields, BlockFits}
 use Rattle.packet_read.specs.Cause.{block_in, blocks_from}
-use Rattle.packet_read.proofs.Blocks.{length_fields}
 
 -- ---- reading
 
@@ -17,14 +16,6 @@ pub record IsReading (bytes : List ℕ) (count : ℕ) (left : List ℕ) (cmds : 
   pub whole : length left ≡ 6 * more
   pub few : length cmds + more ≤ 3
   pub all : cmds ++ blocks_from more left ≡ blocks_from count bytes
-
-pub read_none : (bytes : List ℕ) (count : ℕ) (cmds : List CmdBlock) → cmds ≡ [] → count ≤ 3 → length bytes ≡ 6 * count → IsReading bytes count bytes cmds
-read_none bytes count cmds none few whole = record {
-  more = count;
-  whole = whole;
-  few = subst (λ (xs : List CmdBlock). length xs + count ≤ 3) (sym none) (omega (arith, few));
-  all = rw none refl;
-}
 
 -- there is room for one more
 pub has_room : (bytes : List ℕ) (count : ℕ) (left : List ℕ) (cmds : List CmdBlock) → IsReading bytes count left cmds → 6 ≤ length left → length cmds < 3
@@ -62,31 +53,12 @@ pub pushed : (new cmds : List CmdBlock) (ms buttons : ℕ) (x x' y y' : ℤ)
     → new ≡ cmds ++ record { ms = ms; wish_x = x'; wish_y = y'; buttons = buttons } ∷ []
 pushed new cmds ms buttons x x' y y' e f g = rw (← f, ← g) e
 
--- all were read
-read_all_of : (bytes : List ℕ) (count : ℕ) (left : List ℕ) (cmds : List CmdBlock) (more : ℕ)
-    → length left ≡ 6 * more → cmds ++ blocks_from more left ≡ blocks_from count bytes → length left < 6 → cmds ≡ blocks_from count bytes
-read_all_of bytes count left cmds zero whole all few = sym (append-nil cmds) ∙ all
-read_all_of bytes count left cmds (suc more) whole all few = absurd (omega (arith, whole, few))
-
-pub read_all : (bytes : List ℕ) (count : ℕ) (left : List ℕ) (cmds : List CmdBlock) → IsReading bytes count left cmds → length left < 6 → cmds ≡ blocks_from count bytes
-read_all bytes count left cmds r few = read_all_of bytes count left cmds r.more r.whole r.all few
-
 -- ---- writing
 
 -- the commands before this one were put last, and their fields fit their types
 pub record IsWriting (before : List ℕ) (cmds : List CmdBlock) (i : ℕ) (bytes : List ℕ) : Type 0 where
   pub are : bytes ≡ before ++ flat_map block_fields (take i cmds)
   pub fit : All BlockFits (take i cmds)
-
--- how many bytes there are then
-pub written_length : (before : List ℕ) (cmds : List CmdBlock) (i : ℕ) (bytes : List ℕ) → IsWriting before cmds i bytes → i ≤ length cmds
-    → length bytes ≡ length before + 6 * i
-written_length before cmds i bytes w within =
-    let cut : length (take i cmds) ≡ i = length-take-le i cmds within in
-    let blocks = length_fields (take i cmds) in
-    let both = length-append before (flat_map block_fields (take i cmds)) in
-    let all = ap length w.are in
-    omega (arith, cut, blocks, both, all)
 
 -- one more was put last
 pub write_more : (before : List ℕ) (cmds : List CmdBlock) (i : ℕ) (bytes new : List ℕ) (block blank : CmdBlock)
@@ -102,10 +74,3 @@ write_more before cmds i bytes new block blank w within is appended fits =
           ∙ ap (λ (xs : List ℕ). before ++ xs) (sym fields);
       fit = subst (All BlockFits) (sym more) (All-append BlockFits (take i cmds) (block ∷ []) w.fit (All-cons BlockFits block [] fits (All-nil BlockFits)));
     }
-
--- all were put last
-pub write_all : (before : List ℕ) (cmds : List CmdBlock) (i : ℕ) (bytes : List ℕ) → IsWriting before cmds i bytes → length cmds ≤ i
-    → (bytes ≡ before ++ flat_map block_fields cmds) × All BlockFits cmds
-write_all before cmds i bytes w past =
-    let all : take i cmds ≡ cmds = take_all i cmds past in
-    (w.are ∙ ap (λ (xs : List CmdBlock). before ++ flat_map block_fields xs) all, subst (All BlockFits) all w.fit)

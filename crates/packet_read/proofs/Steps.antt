@@ -1,8 +1,8 @@
 -- What the bytes of a packet of version 2 are read as.
-use Rattle.std.proofs.Common.{◌≡◌, ◌∙◌, ℕ, ◌+◌, ◌*◌, ◌<◌, ◌≤◌, Bool, true, false, cond, List, [], ◌∷◌, length, refl, ap, arith}
-use Rattle.std.specs.Prelude.{◌-◌, min, nat_lt, nat_le, ◌==◌, flat_map, Option, Some, None, Ok, Err}
+use Rattle.std.proofs.Common.{◌≡◌, ◌∙◌, ℕ, ◌+◌, ◌*◌, ◌≤◌, Bool, false, cond, List, [], ◌∷◌, length, refl, ap, arith}
+use Rattle.std.specs.Prelude.{◌-◌, min, nat_lt, nat_le, ◌==◌, flat_map, Option, Some, None, Ok}
 use Rattle.std.specs.Int.{w32, from_le_bytes, to_le_bytes}
-use Rattle.std.proofs.lemmas.Bool.{lt-ltb, le-ltb, ne_eqb, or_from, or_right, and_right}
+use Rattle.std.proofs.lemmas.Bool.{le-ltb, ne_eqb, or_from, and_right}
 use Rattle.std.proofs.lemmas.Nat.{from_le_bytes-to_le_bytes_4}
 use Rattle.packet_read.specs.declared.block_list.CmdBlock.{CmdBlock}
 use Rattle.packet_read.specs.declared.steps_packet.StepsPacket.{StepsPacket}
@@ -17,18 +17,10 @@ use Rattle.packet_read.proofs.Blocks.{blocks_again, length_fields, times_kept, b
 
 -- ---- the first rule that is broken, by whether each is
 
--- the three rules before the length hold, and then there are too few bytes
-at_short : (e v k s : Bool) (rest : Option PacketFault) → e ≡ false → v ≡ false → k ≡ false → s ≡ true
-    → cond e (Some Empty) (cond v (Some Version) (cond k (Some Kind) (cond s (Some Short) rest))) ≡ Some Short
-at_short e v k s rest he hv hk hs = rw (he, hv, hk, hs) refl
-
--- they hold, there are enough bytes, and the rest decides
+-- the three rules before the length hold, there are enough bytes, and the rest decides
 after_short : (e v k s : Bool) (rest : Option PacketFault) → e ≡ false → v ≡ false → k ≡ false → s ≡ false
     → cond e (Some Empty) (cond v (Some Version) (cond k (Some Kind) (cond s (Some Short) rest))) ≡ rest
 after_short e v k s rest he hv hk hs = rw (he, hv, hk, hs) refl
-
-first_of : (b : Bool) (fault : PacketFault) (rest : Option PacketFault) → b ≡ true → cond b (Some fault) rest ≡ Some fault
-first_of b fault rest e = rw e refl
 
 later_of : (b : Bool) (fault : PacketFault) (rest : Option PacketFault) → b ≡ false → cond b (Some fault) rest ≡ rest
 later_of b fault rest e = rw e refl
@@ -37,15 +29,6 @@ none_of : (t u c : Bool) → t ≡ false → u ≡ false → c ≡ false → con
 none_of t u c ht hu hc = rw (ht, hu, hc) refl
 
 -- ---- their bytes after version and kind
-
--- fewer than the number and how many commands there are
-pub steps_cut : (xs : List ℕ) → length xs < 5 → reading (2 ∷ 2 ∷ xs) ≡ Err Short
-steps_cut [] lt = refl
-steps_cut (a ∷ []) lt = refl
-steps_cut (a ∷ b ∷ []) lt = refl
-steps_cut (a ∷ b ∷ c ∷ []) lt = refl
-steps_cut (a ∷ b ∷ c ∷ d ∷ []) lt = refl
-steps_cut (a ∷ b ∷ c ∷ d ∷ n ∷ xs) lt = absurd (omega (arith, lt))
 
 module _ (a b c d n : ℕ) (xs : List ℕ) where
   abbrev bytes : List ℕ
@@ -59,20 +42,6 @@ module _ (a b c d n : ℕ) (xs : List ℕ) where
 
   not_one : (length bytes == 1) ≡ false
   not_one = ne_eqb (length bytes) 1 (λ e. omega (arith, e))
-
-  -- fewer than the commands take
-  pub steps_short : length xs < 6 * min n 3 → reading bytes ≡ Err Short
-  steps_short lt =
-      let short = or_right (length bytes == 1) _ (lt-ltb (length bytes) (7 + 6 * min n 3) (omega (arith, lt))) in
-      ap (λ (cause : Option PacketFault). answer cause packet) (at_short _ _ _ _ _ empty refl (and_right (nat_le 2 (length bytes)) false refl) short)
-
-  -- more than the commands take
-  pub steps_long : 6 * min n 3 < length xs → reading bytes ≡ Err Long
-  steps_long lt =
-      let short = or_from (length bytes == 1) _ not_one (le-ltb (length bytes) (7 + 6 * min n 3) (omega (arith, lt))) in
-      let long = lt-ltb (7 + 6 * min n 3) (length bytes) (omega (arith, lt)) in
-      ap (λ (cause : Option PacketFault). answer cause packet)
-      (after_short _ _ _ _ _ empty refl (and_right (nat_le 2 (length bytes)) false refl) short ∙ first_of _ Long _ long)
 
   -- as many as the commands take
   pub steps_read : length xs ≡ 6 * min n 3

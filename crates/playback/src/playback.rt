@@ -35,7 +35,7 @@ impl Model for Playback {
 }
 
 impl Playback {
-    ghost use Rattle.std.specs.Prelude.{◌≡◌, ◌∷◌, ◌++◌, [], Some, None, option_map, IfOk, OnOk, OnErr};
+    ghost use Rattle.std.specs.Prelude.{◌≡◌, Some, None, IfOk, OnOk, OnErr};
     ghost use Rattle.arena_map.specs.Maps.{IsMap};
     ghost use Rattle.frame_phases.specs.Scores.{score_in};
     ghost use Rattle.playback.specs.Playbacks.{entries_if, ArePrintable, new_course};

@@ -56,9 +56,6 @@ module _ (body : Bounds) (x y z : ℕ) where
     below_climb shift climb =
         inside_then shift (downwards 1) (inside _ (omega (arith, ints, climb.x)) (omega (arith, ints, climb.y)) (omega (arith, ints, climb.z)))
 
-    below_start : contains region (moved body (downwards 1)) ≡ true
-    below_start = inside (downwards 1) (omega arith) (omega arith) (omega arith)
-
     stays_plain : Stays region body (displacement vel ms)
     stays_plain = record {
       inside = λ shift part.

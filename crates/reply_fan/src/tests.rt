@@ -1,4 +1,4 @@
-ghost use Rattle.std.specs.Prelude.{◌≡◌, ◌<◌, length, IfOk, vec_len};
+ghost use Rattle.std.specs.Prelude.{◌≡◌, ◌<◌, IfOk, vec_len};
 ghost use Rattle.std.specs.Bool.{OnTrue};
 ghost use Rattle.arena_geo.specs.Vectors.{IsNear};
 ghost use Rattle.entity_recs.specs.Records.{IsRecord};

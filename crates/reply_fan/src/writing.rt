@@ -1,4 +1,4 @@
-ghost use Rattle.std.specs.Prelude.{◌≡◌, ◌<◌, [], length, slice_index, slice_index_or};
+ghost use Rattle.std.specs.Prelude.{◌≡◌, ◌<◌, [], length, slice_index};
 ghost use Rattle.reply_fan.specs.Replies.{AreLive, AreEmpty, reply_to, replies_to};
 
 use crate::threads::threads_for;

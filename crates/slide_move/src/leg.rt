@@ -24,6 +24,7 @@ fn is_sideways(axis: Axis) -> bool
 /// One trace of a slide, and what follows from it.
 #[derive(Clone, Copy)]
 pub struct Leg {
+    /// The slide up to the end of the trace.
     pub slid: Slid,
     /// What is left of the way, in sub-units. `None` where the slide ends.
     pub rest: Option<Vec3>,

@@ -89,10 +89,6 @@ seen_by_box (Some r) box view me id is own =
     ∙ ap (λ n. touches (abs_of r) view && not (n == me)) (sym (own r refl))
     ∙ sym (is_some-if (is_in_view view me r) r)
 
-pub unseen_by_box : (place : Option Rec) (view : Bounds) (me : ℕ) → None ≡ option_map abs_of place → false ≡ is_some (in_view_at view me place)
-unseen_by_box None view me is = refl
-unseen_by_box (Some r) view me is = absurd (none-some (abs_of r) is)
-
 -- ---- what a loop over the live ids keeps
 
 as_number : (b : Bool) → from_bool b ≡ cond b 1 0

@@ -39,10 +39,6 @@ heights_are_known v wish_x wish_y ms near brief =
     }
 
 -- ---- without a wish
--- no wish adds nothing
-no_gain : (v : Vec3) (ms : ℕ) (on_ground : Bool) → accelerated v (pos 0) (pos 0) ms on_ground ≡ v
-unfolding root_of
-no_gain v ms on_ground = refl
 
 pub fliers_keep_their_course : FliersKeepTheirCourse
 unfolding root_of

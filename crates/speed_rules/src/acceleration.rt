@@ -1,4 +1,4 @@
-ghost use Rattle.std.specs.Prelude.{◌≡◌, ℕ, ◌*◌, ◌/◌, ◌^◌, ◌<◌, ◌≤◌, pos, ◌≤ℤ◌, unsigned_abs};
+ghost use Rattle.std.specs.Prelude.{◌≡◌, ◌*◌, ◌/◌, ◌^◌, ◌<◌, ◌≤◌, pos, ◌≤ℤ◌, unsigned_abs};
 ghost use Rattle.arena_geo.specs.Vectors.{IsNear};
 ghost use Rattle.speed_rules.specs.Measures.{part_along};
 ghost use Rattle.speed_rules.specs.Rules.{cap_of, missing_of, greatest_gain, pushed};

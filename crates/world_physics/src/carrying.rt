@@ -1,8 +1,4 @@
-ghost use Rattle.std.specs.Prelude.{◌≡◌, ◌<◌, ℕ, true, Some, slice_set};
-ghost use Rattle.std.specs.Option.{option_map};
-ghost use Rattle.entity_recs.specs.declared.rec.Rec.{Rec};
-ghost use Rattle.entity_recs.specs.Records.{IsRecord};
-ghost use Rattle.world_tree.specs.Live.{record_at};
+ghost use Rattle.std.specs.Prelude.{◌≡◌, ◌<◌, ℕ, Some};
 ghost use Rattle.world_physics.specs.Returns.{each_changed, changed_at};
 ghost use Rattle.world_physics.specs.LiftSteps.{IsStep, HasRoom, carried_along};
 

@@ -1,6 +1,5 @@
-ghost use Rattle.std.specs.Prelude.{◌≡◌, ◌≤◌, true, pos};
+ghost use Rattle.std.specs.Prelude.{◌≡◌, ◌≤◌};
 ghost use Rattle.entity_recs.specs.Records.{IsRecord};
-ghost use Rattle.entity_recs.specs.Kinds.{is_item};
 
 use super::*;
 use arena_geo::Vec3;
