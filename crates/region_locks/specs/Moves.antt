@@ -16,8 +16,8 @@ use Rattle.region_locks.specs.declared.again.Again.TheVariants.{Held, Busy}
 
 -- the command was run with this entry, which has its slot and its number: the pass's log is the old one and the command
 -- with its entry; the entry's place isn't below the count that the pass had seen, and it has now seen the place plus 1; it
--- was given one command and has none in hand; the refused takes are listed in front of those that were listed before, and
--- the pass's count of them, which stays at the most that 64 bits say, has risen by one for each
+-- was given one command and has none in hand; the refused takes that were listed before are listed still, with more in
+-- front of them, and the pass's count, which stays at the most that 64 bits say, has risen by as many as these are
 pub record HasRun (F : Fixed) (passes : ℕ) (table : TableId) (old new : PassView) (c : Command) (e : Entry) : Type 0
   where
     pub own : IsPassOf F passes table new

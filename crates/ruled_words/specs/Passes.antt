@@ -83,7 +83,7 @@ abbrev pub RefusalIsListed : Option Refused → List HeldWord → Type 0
 RefusalIsListed None refused = Unit {0}
 RefusalIsListed (Some r) refused = IsOneOf (record { node = r.node; word = r.word }) refused
 
--- each take that was refused is listed once, and the count is their number, as far as a word of 64 bits can say it
+-- the count of refused takes is how many are listed, as far as a word of 64 bits can say it
 abbrev pub AreCounted : ℕ → List HeldWord → Type 0
 AreCounted refusals refused = refusals ≡ min (length refused) (2 ^ 64 - 1)
 
