@@ -1,4 +1,4 @@
-ghost use Rattle.std.specs.Prelude.{◌≡◌, true, length, Some, IfOk};
+ghost use Rattle.std.specs.Prelude.{◌≡◌, ◌∷◌, [], true, length, Some, IfOk};
 ghost use Rattle.core_steps.specs.Views.{has};
 ghost use Rattle.ruled_words.specs.Passes.{fixed_in};
 ghost use Rattle.region_locks.specs.Turns.{turn_of};
@@ -10,8 +10,8 @@ use crate::staying::Staying;
 use crate::trial::{FAR, FIRST, far_world, plain, shared_by_two};
 use entity_recs::{Action, Entry, Rec};
 use move_journal::{Log, LogList};
-use region_locks::{Again, NoGate, Pass, Turn, Went};
-use std::alloc::{AllocGlobal, Global};
+use region_locks::{Again, NoGate, Pass, PassList, Turn, Went};
+use std::alloc::{AllocError, AllocGlobal, Global};
 use std::process::Abort;
 use std::test::Fail;
 use world_tree::World;
@@ -180,27 +180,18 @@ fn run_both<A: Action>(
     Ok(())
 }
 
-/// Closes the shared world of two passes, and gives their logs.
-fn close<A: Action>(
+/// The two passes as a list.
+fn both<A: Action>(
     alloc: Global,
-    shared: Shared<A>,
     first: Pass<A>,
     second: Pass<A>,
-    world: &mut World,
-) -> Result<LogList, Fail>
-    requires two { length shared.rooms ≡ 2 }
-    requires first { IsResting (fixed_in A.meaning shared) (length shared.rooms) shared.table 0
-        first }
-    requires second { IsResting (fixed_in A.meaning shared) (length shared.rooms) shared.table 1
-        second }
-    requires world { world.old ≡ shared.world }
+) -> Result<PassList<A>, AllocError>
+    ensures { IfOk result (λ passes. passes.items ≡ first ∷ second ∷ []) }
 {
     let mut passes = Vec::with_capacity(alloc, 2)?;
-    passes.push(first)?;
-    passes.push(second)?;
-    let mut logs = LogList::new(alloc);
-    shared.close(passes, world, &mut logs);
-    Ok(logs)
+    passes.push_reserved(first);
+    passes.push_reserved(second);
+    Ok(passes)
 }
 
 /// The places and the slots of the entries of a log that has one.
@@ -244,7 +235,9 @@ fn expect_both_run<A: Action>(
     requires world { world.old ≡ shared.world }
 {
     run_both(rt, &shared, &mut first, &mut second)?;
-    let logs = close(rt.alloc(), shared, first, second, world)?;
+    let passes = both(rt.alloc(), first, second)?;
+    let mut logs = LogList::new(rt.alloc());
+    shared.close(passes, world, &mut logs);
     expect_logs(rt, &logs)
 }
 

@@ -123,6 +123,30 @@ fn begin_again<A: Action>(table: &NodeTable<A>, pass: &mut Pass<A>) -> Result<()
 
 /// Of two passes that need the same leaves, from that with this node on, the first takes it. The second is refused it,
 /// gives up, and may begin again.
+fn take_in_turn<A: Action>(
+    rt: &impl Abort,
+    table: &NodeTable<A>,
+    first: &mut Pass<A>,
+    second: &mut Pass<A>,
+    node: u8,
+    leaves: u32,
+) -> Result<(), Fail>
+    requires two { length table.now.rooms ≡ 2 }
+    requires zero { has (fixed_in A.meaning table.now).start.ids 0 ≡ true }
+    requires one { has (fixed_in A.meaning table.now).start.ids 1 ≡ true }
+    requires first { IsFree (fixed_in A.meaning table.now) (length table.now.rooms)
+        table.now.table 0 first.old }
+    requires second { IsFree (fixed_in A.meaning table.now) (length table.now.rooms)
+        table.now.table 1 second.old }
+{
+    begin_both(table, first, second);
+    assert_eq!(rt; take_leaf(table, first, node)?, None);
+    expect_refused(rt, table, second, node, leaves)?;
+    expect_given_up(rt, table, second)?;
+    begin_again(table, second)
+}
+
+/// The same of passes that are used up.
 fn expect_one_holder<A: Action>(
     rt: &impl Abort,
     table: &NodeTable<A>,
@@ -139,11 +163,7 @@ fn expect_one_holder<A: Action>(
     requires second { IsFree (fixed_in A.meaning table.now) (length table.now.rooms)
         table.now.table 1 second }
 {
-    begin_both(table, &mut first, &mut second);
-    assert_eq!(rt; take_leaf(table, &mut first, node)?, None);
-    expect_refused(rt, table, &mut second, node, leaves)?;
-    expect_given_up(rt, table, &mut second)?;
-    begin_again(table, &mut second)
+    take_in_turn(rt, table, &mut first, &mut second, node, leaves)
 }
 
 /// Two passes need the same leaves of a tree of this depth, whose first leaf has this node.
@@ -190,6 +210,30 @@ fn expect_count<A: Action>(rt: &impl Abort, table: &NodeTable<A>, pass: &mut Pas
 }
 
 /// Pass 1 looks before pass 0 has run the command of slot 0, and after it.
+fn look_twice<A: Action>(
+    rt: &impl Abort,
+    table: &NodeTable<A>,
+    first: &mut Pass<A>,
+    second: &mut Pass<A>,
+) -> Result<(), Fail>
+    requires two { length table.now.rooms ≡ 2 }
+    requires zero { has (fixed_in A.meaning table.now).start.ids 0 ≡ true }
+    requires first { IsFree (fixed_in A.meaning table.now) (length table.now.rooms)
+        table.now.table 0 first.old }
+    requires second { IsFree (fixed_in A.meaning table.now) (length table.now.rooms)
+        table.now.table 1 second.old }
+{
+    expect_count(rt, table, second, 0);
+    let Ok(entry) = table.try_run(first, plain(0), &NoGate) else {
+        return Err("a refused take".into());
+    };
+    assert_eq!(rt; (entry.place, second.seen()), (0, 0));
+    expect_count(rt, table, second, 1);
+    expect_count(rt, table, second, 1);
+    Ok(())
+}
+
+/// The same of passes that are used up.
 fn check_look<A: Action>(
     rt: &impl Abort,
     table: &NodeTable<A>,
@@ -203,14 +247,7 @@ fn check_look<A: Action>(
     requires second { IsFree (fixed_in A.meaning table.now) (length table.now.rooms)
         table.now.table 1 second }
 {
-    expect_count(rt, table, &mut second, 0);
-    let Ok(entry) = table.try_run(&mut first, plain(0), &NoGate) else {
-        return Err("a refused take".into());
-    };
-    assert_eq!(rt; (entry.place, second.seen()), (0, 0));
-    expect_count(rt, table, &mut second, 1);
-    expect_count(rt, table, &mut second, 1);
-    Ok(())
+    look_twice(rt, table, &mut first, &mut second)
 }
 
 #[test]

@@ -38,15 +38,33 @@ fn expect_passed<A: Action>(rt: &impl Abort, held: (u64, u8, u32), second: &Seco
     assert_eq!(rt; held, (1, 0, 1));
 }
 
+/// Runs the command of slot 0 with pass 0, and beside it that of slot 1 with pass 1, which passes it.
+fn run_beside(
+    rt: &(impl Abort + Wait),
+    shared: &Shared<Staying>,
+    first: &mut Pass<Staying>,
+    second: Pass<Staying>,
+)
+    requires two { length shared.now.rooms ≡ 2 }
+    requires zero { has (fixed_in ⟦<Staying as Action>⟧.meaning shared.now).start.ids 0 ≡ true }
+    requires one { has (fixed_in ⟦<Staying as Action>⟧.meaning shared.now).start.ids 1 ≡ true }
+    requires first { IsFree (fixed_in ⟦<Staying as Action>⟧.meaning shared.now) (length shared.now.rooms)
+        shared.now.table 0 first.old }
+    requires second { IsFree (fixed_in ⟦<Staying as Action>⟧.meaning shared.now) (length shared.now.rooms)
+        shared.now.table 1 second }
+{
+    let gate = Beside::new(shared, second);
+    let held = run_first(rt, shared, first, &gate);
+    expect_passed(rt, held, &gate.into_second());
+}
+
 /// Runs two moves that have no leaf in common, in a tree of this depth: the second passes the first, which is held.
 fn check_far(rt: &(impl AllocGlobal + Abort + Wait), depth: u8) -> Result<(), Fail>
     requires { IsTreeDepth depth }
 {
     let world = far_world(rt.alloc(), depth)?;
     let (shared, mut first, second) = shared_by_two(rt.alloc(), &Staying, &world, 2)?;
-    let gate = Beside::new(&shared, second);
-    let held = run_first(rt, &shared, &mut first, &gate);
-    expect_passed(rt, held, &gate.into_second());
+    run_beside(rt, &shared, &mut first, second);
     Ok(())
 }
 
@@ -84,6 +102,27 @@ fn held_by_first(leaf: u8, leaves: u32) -> Again {
     }
 }
 
+/// Runs the command of slot 0 with pass 0, and beside it that of slot 1 with pass 1, which is refused so.
+fn run_against(
+    rt: &(impl Abort + Wait),
+    shared: &Shared<Staying>,
+    first: &mut Pass<Staying>,
+    second: Pass<Staying>,
+    refused: Again,
+)
+    requires two { length shared.now.rooms ≡ 2 }
+    requires zero { has (fixed_in ⟦<Staying as Action>⟧.meaning shared.now).start.ids 0 ≡ true }
+    requires one { has (fixed_in ⟦<Staying as Action>⟧.meaning shared.now).start.ids 1 ≡ true }
+    requires first { IsFree (fixed_in ⟦<Staying as Action>⟧.meaning shared.now) (length shared.now.rooms)
+        shared.now.table 0 first.old }
+    requires second { IsFree (fixed_in ⟦<Staying as Action>⟧.meaning shared.now) (length shared.now.rooms)
+        shared.now.table 1 second }
+{
+    let gate = Beside::new(shared, second);
+    let held = run_first(rt, shared, first, &gate);
+    expect_refused_once(rt, held, &mut gate.into_second(), refused);
+}
+
 /// Runs two moves that need the same leaves of a tree of this depth, from leaf 0 on: the second is refused leaf 0 while
 /// the first is held.
 fn check_near(rt: &(impl AllocGlobal + Abort + Wait), depth: u8, leaves: u32) -> Result<(), Fail>
@@ -91,10 +130,7 @@ fn check_near(rt: &(impl AllocGlobal + Abort + Wait), depth: u8, leaves: u32) ->
 {
     let world = near_world(rt.alloc(), depth)?;
     let (shared, mut first, second) = shared_by_two(rt.alloc(), &Staying, &world, 2)?;
-    let gate = Beside::new(&shared, second);
-    let held = run_first(rt, &shared, &mut first, &gate);
-    let refused = held_by_first(0, leaves);
-    expect_refused_once(rt, held, &mut gate.into_second(), refused);
+    run_against(rt, &shared, &mut first, second, held_by_first(0, leaves));
     Ok(())
 }
 
@@ -114,9 +150,7 @@ fn a_near_move_is_refused_in_a_tree_of_8_or_32_leaves(rt: HostRuntime) -> Result
 fn a_refusal_names_the_last_two_of_32_leaves(rt: HostRuntime) -> Result<(), Fail> {
     let world = last_world(rt.alloc())?;
     let (shared, mut first, second) = shared_by_two(rt.alloc(), &Staying, &world, 2)?;
-    let gate = Beside::new(&shared, second);
-    let held = run_first(&rt, &shared, &mut first, &gate);
     let refused = held_by_first(30, 0xc000_0000);
-    expect_refused_once(&rt, held, &mut gate.into_second(), refused);
+    run_against(&rt, &shared, &mut first, second, refused);
     Ok(())
 }
