@@ -1,7 +1,7 @@
 ghost use Rattle.std.specs.Prelude.{◌≡◌, true};
 ghost use Rattle.arena_map.specs.MapLines.{IsWithinLimits, is_added};
 
-use super::oracle::{Move, Twins};
+use super::oracle::{Move, Played, Twins};
 use super::{at, server, spawn};
 use arena_map::MapLine;
 use std::alloc::{AllocGlobal, Global};
@@ -30,11 +30,17 @@ fn along_x(slot: u8, seq: u8, wish_x: i16) -> Move {
     }
 }
 
+/// A server of the arena with both spawns.
+fn beside(alloc: Global) -> Result<Played, Fail> {
+    let server = server(alloc, &spawn(), &spawn_beside())?;
+    Ok(Played::new(alloc, server)?)
+}
+
 /// Two servers of the arena with both spawns.
 fn twins_beside(alloc: Global) -> Result<Twins, Fail> {
-    let one = server(alloc, &spawn(), &spawn_beside())?;
-    let other = server(alloc, &spawn(), &spawn_beside())?;
-    Ok(Twins::new(alloc, one, other)?)
+    let first = beside(alloc)?;
+    let again = beside(alloc)?;
+    Ok(Twins::new(first, again))
 }
 
 /// A frame in which the two players move towards each other.

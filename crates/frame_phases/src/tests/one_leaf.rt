@@ -1,11 +1,14 @@
 ghost use Rattle.std.specs.Prelude.{◌≡◌, ◌≤◌, true, unsigned_abs};
 ghost use Rattle.arena_map.specs.MapLines.{IsWithinLimits, is_added};
 
-use super::oracle::{Move, Twins};
+use super::oracle::{Move, Played, Twins};
 use super::{arena, at, server_of};
 use arena_map::{ArenaMap, MapLine, MapRefusal};
-use std::alloc::{AllocError, Global};
+use std::alloc::{AllocError, AllocGlobal, Global};
+use std::process::Abort;
+use std::sync::Wait;
 use std::test::Fail;
+use std::thread::Threads;
 
 /// Where the columns and the rows of the spawns are, from 91,000 up.
 fn place(number: u8) -> i32
@@ -34,11 +37,17 @@ fn crowded_map(alloc: Global) -> Result<ArenaMap, MapRefusal> {
     Ok(map)
 }
 
+/// A server of that arena.
+fn crowded(alloc: Global) -> Result<Played, Fail> {
+    let server = server_of(alloc, crowded_map(alloc))?;
+    Ok(Played::new(alloc, server)?)
+}
+
 /// Two servers of that arena.
 fn crowded_twins(alloc: Global) -> Result<Twins, Fail> {
-    let one = server_of(alloc, crowded_map(alloc))?;
-    let other = server_of(alloc, crowded_map(alloc))?;
-    Ok(Twins::new(alloc, one, other)?)
+    let first = crowded(alloc)?;
+    let again = crowded(alloc)?;
+    Ok(Twins::new(first, again))
 }
 
 /// Eight moves without a wish of each of sixteen players.
@@ -55,10 +64,18 @@ fn moves_in_place(alloc: Global) -> Result<Vec<Move>, AllocError> {
     Ok(moves)
 }
 
+/// A frame in which sixteen players join and make their moves, on sixteen workers.
+fn join_and_stay(
+    rt: &(impl AllocGlobal + Abort + Threads + Wait + Sync),
+    twins: &mut Twins,
+) -> Result<(), Fail> {
+    let moves = moves_in_place(rt.alloc())?;
+    assert_eq!(rt; moves.len(), 128);
+    twins.play(rt, 16, moves.as_slice(), 16)
+}
+
 #[test]
 fn sixteen_on_one_leaf(rt: HostRuntime) -> Result<(), Fail> {
     let mut twins = crowded_twins(rt.alloc())?;
-    let moves = moves_in_place(rt.alloc())?;
-    assert_eq!(&rt; moves.len(), 128);
-    twins.play(&rt, 16, moves.as_slice(), 16)
+    join_and_stay(&rt, &mut twins)
 }

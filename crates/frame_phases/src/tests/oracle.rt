@@ -109,25 +109,33 @@ fn expect_same_replies(rt: &impl Abort, out: &FrameOut, other: &FrameOut) {
     }
 }
 
+/// A server, and what its last frame gave out.
+#[derive(Drop)]
+pub struct Played {
+    server: Server,
+    out: FrameOut,
+}
+
+impl Played {
+    /// This server, which has played no frame.
+    pub fn new(alloc: Global, server: Server) -> Result<Played, AllocError> {
+        let out = FrameOut::new(alloc)?;
+        Ok(Played { server, out })
+    }
+}
+
 /// A server, and one of the same map that plays again what the first has played.
 #[derive(Drop)]
 pub struct Twins {
-    server: Server,
-    again: Server,
-    out: FrameOut,
-    other: FrameOut,
+    first: Played,
+    again: Played,
 }
 
 impl Twins {
     ghost use Rattle.move_phase.specs.Serving.{AreWorkers};
 
-    pub fn new(alloc: Global, server: Server, again: Server) -> Result<Twins, AllocError> {
-        Ok(Twins {
-            server,
-            again,
-            out: FrameOut::new(alloc)?,
-            other: FrameOut::new(alloc)?,
-        })
+    pub fn new(first: Played, again: Played) -> Twins {
+        Twins { first, again }
     }
 
     /// Runs a frame of so many joins and these moves on so many workers: each move has an entry. On the other server one
@@ -142,12 +150,13 @@ impl Twins {
         requires { AreWorkers workers }
     {
         let arrivals = arrivals_of(rt.alloc(), joins, moves)?;
+        let first = &mut self.first;
         play_on(
             rt,
-            &mut self.server,
+            &mut first.server,
             arrivals.as_slice(),
             workers,
-            &mut self.out,
+            &mut first.out,
         )?;
         self.play_again(rt, joins, moves)
     }
@@ -159,18 +168,26 @@ impl Twins {
         joins: u8,
         moves: &[Move],
     ) -> Result<(), Fail> {
-        let ordered = in_order_of(rt.alloc(), &self.out, moves)?;
+        let ordered = in_order_of(rt.alloc(), &self.first.out, moves)?;
         assert_eq!(rt; ordered.len(), moves.len());
         let arrivals = arrivals_of(rt.alloc(), joins, ordered.as_slice())?;
-        play_on(rt, &mut self.again, arrivals.as_slice(), 1, &mut self.other)?;
+        let again = &mut self.again;
+        play_on(
+            rt,
+            &mut again.server,
+            arrivals.as_slice(),
+            1,
+            &mut again.out,
+        )?;
         self.expect_same(rt);
         Ok(())
     }
 
     /// Compares what the two frames give out.
     fn expect_same(&self, rt: &impl Abort) {
-        expect_same_entries(rt, &self.out, &self.other);
-        expect_same_players(rt, &self.out, &self.other);
-        expect_same_replies(rt, &self.out, &self.other);
+        let (out, other) = (&self.first.out, &self.again.out);
+        expect_same_entries(rt, out, other);
+        expect_same_players(rt, out, other);
+        expect_same_replies(rt, out, other);
     }
 }
