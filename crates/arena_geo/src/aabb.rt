@@ -221,18 +221,12 @@ mod tests {
             let one = cube(from, to).ok_or("a box")?;
             let other = cube(other_from, other_to).ok_or("a box")?;
             assert_eq!(rt;
-                one.overlaps(&other),
-                overlap,
-                "{from} {to} {other_from} {other_to}"
-            );
-            assert_eq!(rt;
-                one.touches(&other),
-                touch,
-                "{from} {to} {other_from} {other_to}"
-            );
-            assert_eq!(rt;
-                one.contains(&other),
-                contain,
+                (
+                    one.overlaps(&other),
+                    one.touches(&other),
+                    one.contains(&other)
+                ),
+                (overlap, touch, contain),
                 "{from} {to} {other_from} {other_to}"
             );
         }
@@ -244,13 +238,31 @@ mod tests {
         assert_eq!(rt; cube(1, 0), None);
         assert_eq!(rt; cube(-2_097_153, 0), None);
         assert_eq!(rt; cube(0, 2_097_153), None);
+        Ok(())
+    }
+
+    #[test]
+    fn the_least_box_grows_and_moves(rt: HostRuntime) -> Result<(), Fail> {
         let least = cube(0, 0).ok_or("a box")?;
-        let most = cube(-2_097_152, 2_097_152).ok_or("a box")?;
         let one = Vec3 { x: 1, y: 1, z: 1 };
         assert_eq!(rt; least.grow(one), cube(-1, 1));
         assert_eq!(rt; least.moved(one), cube(1, 1));
-        assert_eq!(rt; most.grow(one), None);
-        assert_eq!(rt; most.moved(one), None);
+        Ok(())
+    }
+
+    #[test]
+    fn the_largest_box_neither_grows_nor_moves(rt: HostRuntime) -> Result<(), Fail> {
+        let most = cube(-2_097_152, 2_097_152).ok_or("a box")?;
+        let one = Vec3 { x: 1, y: 1, z: 1 };
+        assert_eq!(rt; (most.grow(one), most.moved(one)), (None, None));
+        Ok(())
+    }
+
+    #[test]
+    fn the_hull_of_the_least_and_the_largest_box(rt: HostRuntime) -> Result<(), Fail> {
+        let least = cube(0, 0).ok_or("a box")?;
+        let most = cube(-2_097_152, 2_097_152).ok_or("a box")?;
+        let one = Vec3 { x: 1, y: 1, z: 1 };
         assert_eq!(rt; least.hull(&most), most);
         assert_eq!(rt; least.hi() - one + one, most.lo().max(least.lo()));
         Ok(())

@@ -194,26 +194,25 @@ fn effect_of_two(
     game.action.act(me, &[first, second], cmd)
 }
 
+/// The effect has just these ids and these states.
+fn expect_states(rt: &impl Abort, effect: &Effect, got: &[u16], states: &[NewState]) {
+    assert_eq!(rt; effect.reply.got.as_slice(), got);
+    assert_eq!(rt; effect.states.as_slice(), states);
+}
+
 /// The target and the ammunition have just the new states of one move in frame 0, where the target is hit, or the
 /// ammunition is taken, or both; and the ids of those are got.
 fn expect_changed(rt: &impl Abort, effect: &Effect, hit: Option<u64>, taken: bool) {
-    let got = effect.reply.got.as_slice();
-    let states = effect.states.as_slice();
-    let taken_item = NewState { id: 64, state: 100 };
+    let item = NewState { id: 64, state: 100 };
     match (hit, taken) {
         (Some(state), true) => {
-            assert_eq!(rt; got, [1, 64].as_slice());
-            assert_eq!(rt; states, [taken_item, NewState { id: 1, state }].as_slice());
+            expect_states(rt, effect, &[1, 64], &[item, NewState { id: 1, state }]);
         }
         (Some(state), false) => {
-            assert_eq!(rt; got, [1].as_slice());
-            assert_eq!(rt; states, [NewState { id: 1, state }].as_slice());
+            expect_states(rt, effect, &[1], &[NewState { id: 1, state }]);
         }
-        (None, true) => {
-            assert_eq!(rt; got, [64].as_slice());
-            assert_eq!(rt; states, [taken_item].as_slice());
-        }
-        (None, false) => assert!(rt; got.is_empty() && states.is_empty()),
+        (None, true) => expect_states(rt, effect, &[64], &[item]),
+        (None, false) => expect_states(rt, effect, &[], &[]),
     }
 }
 

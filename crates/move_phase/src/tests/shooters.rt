@@ -460,6 +460,12 @@ fn expect_shooters(rt: &impl Abort, world: &World, points: (u32, u32)) {
     assert_eq!(rt; world.get(1), Some(second));
 }
 
+/// Both moves were run in their order; the first shot has hit, and the second may have.
+fn expect_entries(rt: &impl Abort, one: &Entry, two: &Entry, second_hits: bool) {
+    expect_entry(rt, one, (0, 0), 39_994, true);
+    expect_entry(rt, two, (1, 1), -39_994, second_hits);
+}
+
 /// Both shoot at who has this damage: the first hits, and the second may; then the target is in this state, and the
 /// shooters have so many points.
 fn check(
@@ -472,8 +478,7 @@ fn check(
     let action = shooting(rt.alloc()).map_err(|_| "a map")?;
     let mut world = world_with(rt.alloc(), &action, damage)?;
     let (one, two) = run_both(rt, &action, &mut world, damage)?;
-    expect_entry(rt, &one, (0, 0), 39_994, true);
-    expect_entry(rt, &two, (1, 1), -39_994, second_hits);
+    expect_entries(rt, &one, &two, second_hits);
     expect_shooters(rt, &world, points);
     assert_eq!(rt; world.get(3), Some(Rec { state, ..TARGET }));
     Ok(())
