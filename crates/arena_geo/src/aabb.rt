@@ -207,8 +207,18 @@ mod tests {
         Aabb::new(lo, hi)
     }
 
+    /// Whether one box overlaps the other, touches it and contains it.
+    fn relations(one: Option<Aabb>, other: Option<Aabb>) -> Option<(bool, bool, bool)> {
+        let (one, other) = (one?, other?);
+        Some((
+            one.overlaps(&other),
+            one.touches(&other),
+            one.contains(&other),
+        ))
+    }
+
     #[test]
-    fn touching_boxes_do_not_overlap(rt: HostRuntime) -> Result<(), Fail> {
+    fn touching_boxes_do_not_overlap(rt: HostRuntime) {
         // one from, one to, other from, other to, overlap, touch, the one contains the other
         for (from, to, other_from, other_to, overlap, touch, contain) in [
             (0, 10, 9, 20, true, true, false),
@@ -218,19 +228,12 @@ mod tests {
             (-5, 10, -6, 10, true, true, false),
             (3, 3, 3, 3, false, true, true),
         ] {
-            let one = cube(from, to).ok_or("a box")?;
-            let other = cube(other_from, other_to).ok_or("a box")?;
             assert_eq!(rt;
-                (
-                    one.overlaps(&other),
-                    one.touches(&other),
-                    one.contains(&other)
-                ),
-                (overlap, touch, contain),
+                relations(cube(from, to), cube(other_from, other_to)),
+                Some((overlap, touch, contain)),
                 "{from} {to} {other_from} {other_to}"
             );
         }
-        Ok(())
     }
 
     #[test]
@@ -262,10 +265,16 @@ mod tests {
     fn the_hull_of_the_least_and_the_largest_box(rt: HostRuntime) -> Result<(), Fail> {
         let least = cube(0, 0).ok_or("a box")?;
         let most = cube(-2_097_152, 2_097_152).ok_or("a box")?;
-        let one = Vec3 { x: 1, y: 1, z: 1 };
         assert_eq!(rt; least.hull(&most), most);
-        assert_eq!(rt; least.hi() - one + one, most.lo().max(least.lo()));
         Ok(())
+    }
+
+    #[test]
+    fn corners_are_added_and_compared(rt: HostRuntime) {
+        let one = Vec3 { x: 1, y: 1, z: 1 };
+        let corner = Vec3 { x: 0, y: 5, z: -7 };
+        assert_eq!(rt; corner - one + one, corner);
+        assert_eq!(rt; corner.max(one), Vec3 { x: 1, y: 5, z: 1 });
     }
 
     fn at(x: i32, y: i32, z: i32) -> Vec3

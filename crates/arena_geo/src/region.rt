@@ -89,16 +89,34 @@ mod tests {
         Aabb::new(lo, hi)
     }
 
+    /// A region of the first box, and the second as often as there is room for it.
+    fn filled(first: Aabb, second: Aabb) -> (Region, usize) {
+        let mut region = Region::one(first);
+        let mut pushed = 0usize;
+        for _ in 0..2 * REGION_BOXES {
+            if region.push(second) {
+                pushed = pushed.saturating_add(1);
+            }
+        }
+        (region, pushed)
+    }
+
     #[test]
     fn region_holds_17_boxes(rt: HostRuntime) -> Result<(), Fail> {
         let first = column(0, 10).ok_or("a box")?;
-        let second = column(100, 110).ok_or("a box")?;
-        let mut region = Region::one(first);
-        for _ in 1..REGION_BOXES {
-            assert!(rt; region.push(second));
-        }
-        assert!(rt; !region.push(first));
-        assert_eq!(rt; region.boxes().len(), 17);
+        let (region, pushed) = filled(first, column(100, 110).ok_or("a box")?);
+        assert_eq!(rt; (pushed, region.boxes().len()), (16, 17));
+        Ok(())
+    }
+
+    /// Whether a region of two columns touches a third.
+    fn is_touched(from: i32, to: i32) -> Option<bool> {
+        let (region, _) = filled(column(0, 10)?, column(100, 110)?);
+        Some(region.touched(&column(from, to)?))
+    }
+
+    #[test]
+    fn a_region_touches_what_its_boxes_touch(rt: HostRuntime) {
         // from, to, touched
         for (from, to, touched) in [
             (-5, -1, false),
@@ -108,9 +126,7 @@ mod tests {
             (110, 200, true),
             (111, 200, false),
         ] {
-            let b = column(from, to).ok_or("a box")?;
-            assert_eq!(rt; region.touched(&b), touched, "{from} {to}");
+            assert_eq!(rt; is_touched(from, to), Some(touched), "{from} {to}");
         }
-        Ok(())
     }
 }

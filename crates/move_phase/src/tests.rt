@@ -1,4 +1,5 @@
-ghost use Rattle.std.specs.Prelude.{◌≡◌, ◌≤◌, length, true, All, IfOk};
+ghost use Rattle.std.specs.Prelude.{◌≡◌, ◌≤◌, length, map as map_list, true, All, IfOk};
+ghost use Rattle.entity_recs.specs.Commands.{command_of};
 ghost use Rattle.arena_map.specs.MapLines.{IsWithinLimits, is_arena, is_added};
 ghost use Rattle.arena_map.specs.Maps.{IsMap};
 ghost use Rattle.arena_map.specs.Validity.{IsOpeningWorld, IsValidWorld};
@@ -13,7 +14,7 @@ use arena_actions::MapAction;
 use arena_geo::Vec3;
 use arena_map::{ArenaMap, MapLine, MapRefusal};
 use client_ports::{Ports, Received};
-use entity_recs::{Entry, Kind};
+use entity_recs::{Cmd, Entry, Kind};
 use move_journal::Journal;
 use packet_read::{Arrival, ArrivalBytes};
 use shared_moves::NoGate;
@@ -133,6 +134,27 @@ fn receive(map: &ArenaMap, world: &mut World, out: &mut Received)
     ports.receive(map, world, 0, &arrivals, out);
 }
 
+/// Runs these moves on so many workers, and gives the journal.
+fn journal_of(
+    rt: &(impl AllocGlobal + Abort + Threads + Wait + Sync),
+    map: ArenaMap,
+    world: &mut World,
+    moves: &[Cmd],
+    workers: u8,
+) -> Result<Journal, Fail>
+    requires workers { AreWorkers workers }
+    requires valid { IsValidWorld map world.old.records }
+    requires live { All (HasLivePlayer world.old.records) (map_list command_of moves.now) }
+    requires apart { HasNumbersApart (map_list command_of moves.now) }
+    requires few { length moves.now ≤ 512 }
+{
+    let mut journal = Journal::new(rt.alloc(), 512)?;
+    let action = MapAction::new(map);
+    let started = StartedMoves::start(rt.alloc(), &action, world, moves, workers)?;
+    started.run(rt, world, moves, &NoGate, &mut journal);
+    Ok(journal)
+}
+
 /// Runs the two moves on so many workers, and gives the journal.
 #[tactic(auto, using(client_ports::proofs::Rooms::room_enough))]
 fn reach(
@@ -145,12 +167,7 @@ fn reach(
     let mut world = opening(rt.alloc(), &map)?;
     let mut received = Received::new(rt.alloc(), 4)?;
     receive(&map, &mut world, &mut received);
-    let mut journal = Journal::new(rt.alloc(), 512)?;
-    let action = MapAction::new(map);
-    let moves = received.moves();
-    let started = StartedMoves::start(rt.alloc(), &action, &world, moves, workers)?;
-    started.run(rt, &mut world, moves, &NoGate, &mut journal);
-    Ok(journal)
+    journal_of(rt, map, &mut world, received.moves(), workers)
 }
 
 /// Compares an entry of the player that joined first or second, which has come nearer to the item.

@@ -217,6 +217,27 @@ fn expect_moved(rt: &impl Abort, world: &World) {
     assert_eq!(rt; world.get(1), Some(Rec { seq: 1, ..FAR }));
 }
 
+/// Closes the shared world of two passes: each has one entry.
+fn close_both<A: Action>(
+    rt: &(impl AllocGlobal + Abort),
+    shared: Shared<A>,
+    first: Pass<A>,
+    second: Pass<A>,
+    world: &mut World,
+) -> Result<(), Fail>
+    requires two { length shared.rooms ≡ 2 }
+    requires first { IsResting (fixed_in A.meaning shared) (length shared.rooms) shared.table 0
+        first }
+    requires second { IsResting (fixed_in A.meaning shared) (length shared.rooms) shared.table 1
+        second }
+    requires world { world.old ≡ shared.world }
+{
+    let passes = both(rt.alloc(), first, second)?;
+    let mut logs = LogList::new(rt.alloc());
+    shared.close(passes, world, &mut logs);
+    expect_logs(rt, &logs)
+}
+
 /// Runs the commands of both passes, and closes the shared world: each pass has one entry.
 fn expect_both_run<A: Action>(
     rt: &(impl AllocGlobal + Abort),
@@ -235,10 +256,7 @@ fn expect_both_run<A: Action>(
     requires world { world.old ≡ shared.world }
 {
     run_both(rt, &shared, &mut first, &mut second)?;
-    let passes = both(rt.alloc(), first, second)?;
-    let mut logs = LogList::new(rt.alloc());
-    shared.close(passes, world, &mut logs);
-    expect_logs(rt, &logs)
+    close_both(rt, shared, first, second, world)
 }
 
 #[test]

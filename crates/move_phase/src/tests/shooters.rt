@@ -18,8 +18,8 @@ use arena_map::{ArenaMap, MapLine, MapRefusal};
 use core_steps::{StepKind, node_word};
 use entity_recs::{Action, Cmd, Entry, Kind, PLAYER_MAXS, PLAYER_MINS, Rec, body_box};
 use move_journal::LogList;
-use region_locks::{Again, Holder, NoGate, NodeTable, Pass, Turn, Went};
-use std::alloc::{AllocGlobal, Global};
+use region_locks::{Again, Holder, NoGate, NodeTable, Pass, PassList, Turn, Went};
+use std::alloc::{AllocError, AllocGlobal, Global};
 use std::process::Abort;
 use std::test::Fail;
 use world_tree::World;
@@ -397,6 +397,20 @@ fn shoot_both<A: Action>(
     Ok((one, two))
 }
 
+/// The two passes as a list.
+fn both<A: Action>(
+    alloc: Global,
+    first: Pass<A>,
+    second: Pass<A>,
+) -> Result<PassList<A>, AllocError>
+    ensures { IfOk result (λ passes. passes.items ≡ first ∷ second ∷ []) }
+{
+    let mut passes = Vec::with_capacity(alloc, 2)?;
+    passes.push_reserved(first);
+    passes.push_reserved(second);
+    Ok(passes)
+}
+
 /// Closes the table of two passes.
 fn close<A: Action>(
     alloc: Global,
@@ -412,9 +426,7 @@ fn close<A: Action>(
         second }
     requires world { world.old ≡ table.world }
 {
-    let mut passes = Vec::with_capacity(alloc, 2)?;
-    passes.push(first)?;
-    passes.push(second)?;
+    let passes = both(alloc, first, second)?;
     let mut logs = LogList::new(alloc);
     table.close(passes, world, &mut logs);
     Ok(())

@@ -1,6 +1,7 @@
 use Rattle.std.proofs.Common.{arith}
 use Rattle.arena_actions.specs.MapActions.{map_in}
-use Rattle.move_phase.proofs.TakenPlayers.{player_taken, inside_by_test}
+use Rattle.arena_actions.proofs.OnMaps.{inside_by_test}
+use Rattle.move_phase.proofs.TakenPlayers.{player_taken}
 use Rattle.move_phase.proofs.tests.shooters.is_taken.Goals as goal
 
 pub returns : goal.returns
