@@ -1,12 +1,12 @@
 use arena_map::{MapLine, print_map_line};
 use edge_io::LineBuf;
 use itoa::Buffer;
-use packet_read::{MAX_PACKET_BYTES, Packet, write_packet};
+use packet_read::{MOST_PACKET_BYTES, Packet, write_packet};
 use std::alloc::{AllocError, Global};
 use std::marker::Model;
 
 /// How many hexadecimal digits a packet has at the most.
-const MOST_DIGITS: usize = 2 * MAX_PACKET_BYTES;
+const MOST_DIGITS: usize = 2 * MOST_PACKET_BYTES;
 
 /// The text of a plan, as far as it was put together, and room for a line of its map. A contract sees the text.
 #[derive(Drop)]
@@ -78,7 +78,7 @@ impl PlanText {
 
     /// Puts the bytes of a packet last, as hexadecimal digits in lower case.
     fn push_digits(&mut self, bytes: &[u8]) -> Result<(), AllocError>
-        requires { length bytes.now ≤ MAX_PACKET_BYTES }
+        requires { length bytes.now ≤ MOST_PACKET_BYTES }
         ensures { OnOk result (self.new ≡ self.old ++ encode_lower bytes.now) }
     {
         let mut digits = [0; MOST_DIGITS];

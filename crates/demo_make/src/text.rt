@@ -10,13 +10,13 @@ use crate::map_lines::{MAP_LINES, map_line};
 use arena_map::print_map_line;
 use edge_io::{LineBuf, ROOM};
 use itoa::Buffer;
-use packet_read::MAX_PACKET_BYTES;
+use packet_read::MOST_PACKET_BYTES;
 
 /// How many bytes the line of an event has at the most, with its line feed.
 pub const LONGEST_EVENT: usize = 140;
 
 /// How many hexadecimal digits a packet has at the most.
-const MOST_DIGITS: usize = 2 * MAX_PACKET_BYTES;
+const MOST_DIGITS: usize = 2 * MOST_PACKET_BYTES;
 
 /// Puts the lines of the map at the end of `text`, which is empty. `line` is for one of them.
 pub fn push_map(text: &mut LineBuf, line: &mut LineBuf)
@@ -33,7 +33,7 @@ pub fn push_map(text: &mut LineBuf, line: &mut LineBuf)
 
 /// Puts a packet at the end: its bytes as hexadecimal digits in lower case, or a dash for none.
 fn push_packet(text: &mut LineBuf, bytes: &[u8])
-    requires short { length bytes.now ≤ MAX_PACKET_BYTES }
+    requires short { length bytes.now ≤ MOST_PACKET_BYTES }
     requires room { length text.old + MOST_DIGITS ≤ ROOM }
     ensures { text.new ≡ text.old ++ packet_text bytes.now }
 {

@@ -22,7 +22,7 @@ pub use laws::{
 };
 pub use move_packet::MovePacket;
 pub use packet::Packet;
-pub use packet_bytes::{MAX_PACKET_BYTES, PacketBytes};
+pub use packet_bytes::{MOST_PACKET_BYTES, PacketBytes};
 pub use packet_fault::PacketFault;
 pub use reading::read_packet;
 pub use steps_packet::StepsPacket;

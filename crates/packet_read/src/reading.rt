@@ -9,7 +9,7 @@ use crate::move_packet::MovePacket;
 use crate::packet::Packet;
 use crate::packet_fault::PacketFault;
 use crate::reading_steps::read_kind_2;
-use crate::wire::{JOIN, KNOWN_BUTTONS, LEAVE, MAX_MS, MOVE, MOVE_FIELDS, VERSION, VERSION_2};
+use crate::wire::{JOIN, KNOWN_BUTTONS, LEAVE, MOST_MS, MOVE, MOVE_FIELDS, VERSION, VERSION_2};
 
 /// The packet that the bytes spell, or the first fault in the order of `PacketFault`.
 pub fn read_packet(bytes: &[u8]) -> Result<Packet, PacketFault>
@@ -54,7 +54,7 @@ fn read_move(fields: &[u8]) -> Result<Packet, PacketFault>
     let &[s0, s1, s2, s3, ms, x0, x1, y0, y1, buttons] = fields else {
         return Err(PacketFault::Long);
     };
-    if ms < 1 || ms > MAX_MS {
+    if ms < 1 || ms > MOST_MS {
         return Err(PacketFault::Time);
     }
     if buttons > KNOWN_BUTTONS {

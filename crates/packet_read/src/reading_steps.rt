@@ -9,7 +9,7 @@ use crate::block_list::{BlockList, CmdBlock, MOST_BLOCKS};
 use crate::packet::Packet;
 use crate::packet_fault::PacketFault;
 use crate::steps_packet::StepsPacket;
-use crate::wire::{BLOCK_BYTES, KNOWN_BUTTONS_2, MAX_MS, MOVE};
+use crate::wire::{BLOCK_BYTES, KNOWN_BUTTONS_2, MOST_MS, MOVE};
 
 /// Reads what follows version 2.
 pub fn read_kind_2(bytes: &[u8]) -> Result<Packet, PacketFault>
@@ -68,7 +68,7 @@ fn read_blocks(bytes: &[u8], blocks: usize) -> BlockList
 fn has_wrong_time(cmds: &[CmdBlock]) -> bool
     ensures { result ≡ list_any (λ b. is_wrong_time b.ms) cmds.now }
 {
-    cmds.iter().any(|b| b.ms < 1 || b.ms > MAX_MS)
+    cmds.iter().any(|b| b.ms < 1 || b.ms > MOST_MS)
 }
 
 // Whether a command has a button above bit 1.

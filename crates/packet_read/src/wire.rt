@@ -11,7 +11,7 @@ pub const MOVE: u8 = 2;
 /// The second byte of a leave.
 pub const LEAVE: u8 = 3;
 /// The longest time of a move, in milliseconds.
-pub const MAX_MS: u8 = 50;
+pub const MOST_MS: u8 = 50;
 /// The buttons that are known in version 1: bit 0, the jump.
 pub const KNOWN_BUTTONS: u8 = 1;
 /// The buttons that are known in version 2: bit 0, the jump, and bit 1, the shot.

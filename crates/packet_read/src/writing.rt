@@ -7,7 +7,7 @@ ghost use Rattle.packet_read.specs.Reading.{reading};
 use crate::block_list::CmdBlock;
 use crate::move_packet::MovePacket;
 use crate::packet::Packet;
-use crate::packet_bytes::{MAX_PACKET_BYTES, PacketBytes};
+use crate::packet_bytes::{MOST_PACKET_BYTES, PacketBytes};
 use crate::steps_packet::StepsPacket;
 use crate::wire::{JOIN, LEAVE, MOVE, VERSION, VERSION_2};
 
@@ -29,7 +29,7 @@ pub fn write_packet(p: &Packet) -> PacketBytes
 
 // Puts the bytes of a move last.
 fn append_move(bytes: &mut PacketBytes, packet: MovePacket)
-    requires { length bytes.old + 12 ≤ MAX_PACKET_BYTES }
+    requires { length bytes.old + 12 ≤ MOST_PACKET_BYTES }
     ensures appended { bytes.new ≡ bytes.old ++ spelling (Step packet) }
     ensures fits { MoveFits packet }
 {
@@ -44,7 +44,7 @@ fn append_move(bytes: &mut PacketBytes, packet: MovePacket)
 // Puts the bytes of a packet of version 2 last.
 fn append_steps(bytes: &mut PacketBytes, packet: &StepsPacket)
     requires allowed { IsAllowedSteps packet.now }
-    requires room { length bytes.old + 25 ≤ MAX_PACKET_BYTES }
+    requires room { length bytes.old + 25 ≤ MOST_PACKET_BYTES }
     ensures appended { bytes.new ≡ bytes.old ++ spelling (Steps packet.now) }
     ensures fits { StepsFit packet.now }
 {
@@ -59,7 +59,7 @@ fn append_steps(bytes: &mut PacketBytes, packet: &StepsPacket)
 
 // Puts the bytes of a command of version 2 last.
 fn append_block(bytes: &mut PacketBytes, block: CmdBlock)
-    requires { length bytes.old + 6 ≤ MAX_PACKET_BYTES }
+    requires { length bytes.old + 6 ≤ MOST_PACKET_BYTES }
     ensures appended { bytes.new ≡ bytes.old ++ block_fields block }
     ensures fits { BlockFits block }
 {
