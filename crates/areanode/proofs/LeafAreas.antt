@@ -43,10 +43,10 @@ both_pass true true h = record { first = refl; second = refl }
 both_pass true false h = cc
 both_pass false q h = cc
 
-begins_before : (lo hi l h : ℤ) → touches_on lo hi l h ≡ true → lo ≤ℤ h
+pub begins_before : (lo hi l h : ℤ) → touches_on lo hi l h ≡ true → lo ≤ℤ h
 begins_before lo hi l h touch = grind (arith, ints)
 
-ends_after : (lo hi l h : ℤ) → touches_on lo hi l h ≡ true → l ≤ℤ hi
+pub ends_after : (lo hi l h : ℤ) → touches_on lo hi l h ≡ true → l ≤ℤ hi
 ends_after lo hi l h touch = grind (arith, ints)
 
 touching : (a b : Bounds) → touches_flat a b ≡ true → Touching a b

@@ -3,16 +3,11 @@ use Rattle.std.proofs.Common.{◌≡◌, ℕ, ◌+◌, ◌-◌, ◌*◌, ◌/◌
 use Rattle.std.proofs.lemmas.Nat.{one_shl}
 use Rattle.std.proofs.lemmas.Nat.Bits.{shr_and_one}
 use Rattle.std.proofs.lemmas.Bool.{eq-eqb, ne_eqb}
+use Rattle.std.proofs.Math.Bool.{or_comm}
 use Rattle.areanode.specs.Words.{any_below, word_of, has_bit}
 use Rattle.areanode.specs.declared.sizes.TheConstants.{MOST_NODES}
 use Rattle.areanode.specs.Trees.{inner_in, nodes_in, leaf_node, climb, is_over}
 use Rattle.areanode.proofs.Words.{word_of-same, word_of-or, word_of-one, word_of-none}
-
-or_turned : (a b : Bool) → (a || b) ≡ (b || a)
-or_turned true true = refl
-or_turned true false = refl
-or_turned false true = refl
-or_turned false false = refl
 
 or_with_false : (b : Bool) → b ≡ (b || false)
 or_with_false true = refl
@@ -20,7 +15,7 @@ or_with_false false = refl
 
 any_below_more : (n : ℕ) (test : ℕ → Bool) → (any_below n test || test n) ≡ any_below (n + 1) test
 unfolding any_below
-any_below_more n test = rw (add-one n) (or_turned (any_below n test) (test n))
+any_below_more n test = rw (add-one n) (or_comm (any_below n test) (test n))
 
 pub climb_start : (node : ℕ) → node ≡ climb 0 node
 unfolding climb

@@ -107,3 +107,19 @@ bit_of_one k i =
 -- the word of a set of one number
 pub word_of-one : (n k : ℕ) → k < n → 2 ^ k ≡ word_of n (λ i. k == i)
 word_of-one n k below = same_word n _ _ (pow_below k n below) (λ i _. bit_of_one k i)
+
+-- ---- a word, bit by bit
+
+-- a number below 2 is a bit
+pub bit_by_test : (n : ℕ) → n < 2 → n ≡ bit (n == 1)
+bit_by_test zero below = refl
+bit_by_test (suc zero) below = refl
+bit_by_test (suc (suc n)) below = omega arith
+
+pub word_none : (test : ℕ → Bool) → 0 ≡ word_of 0 test
+unfolding word_of
+word_none test = refl
+
+pub word_next : (n : ℕ) (test : ℕ → Bool) → word_of (n + 1) test ≡ (if test n then 2 ^ n else 0) + word_of n test
+unfolding word_of
+word_next n test = let next : n + 1 ≡ suc n = omega arith in ap (λ (k : ℕ). word_of k test) next

@@ -14,6 +14,7 @@ use Rattle.entity_recs.specs.declared.rec.Rec.{Rec}
 use Rattle.entity_recs.specs.Records.{HasCorners}
 use Rattle.entity_recs.specs.Bodies.{standing, body_of, player_body}
 use Rattle.entity_recs.specs.Commands.{Command}
+use Rattle.entity_recs.proofs.Ids.{player_shape}
 use Rattle.player_move.specs.Walks.{downwards, ground_of}
 use Rattle.player_move.proofs.Standings.{ground_is_tested}
 use Rattle.arena_map.specs.Maps.{MapView}
@@ -24,7 +25,6 @@ use Rattle.trigger_rules.proofs.Doing.{teleporters_blocked}
 use Rattle.trigger_rules.proofs.Leaping.{leaps_from_teleporters}
 use Rattle.arena_actions.specs.Outcomes.{asked, flags_of, moved_among, outcome_in}
 use Rattle.arena_actions.specs.Flags.{IsUnder, IsFreeTeleporter, AreFlagsOf, FlagsAreKnown}
-use Rattle.arena_actions.specs.Lawful.Players.{player_shape}
 
 -- ---- bit 0
 

@@ -1,33 +1,20 @@
 -- The index of the solids misses none.
 use Rattle.std.proofs.Common.{◌≡◌, ℕ, zero, suc, cond, inl, inr, ◌+◌, ◌/◌, ◌%◌, ◌^◌, ◌<◌, ◌≤◌, min, Bool, true, false, List, [], ◌∷◌, ◌++◌, length, take, filter, get_or, bit_and, ℤ, ◌≤ℤ◌, ◌-ℤ◌, unsigned_abs, refl, sym, ap, ◌∙◌, subst, arith}
-use Rattle.std.proofs.Math.Nat.{div-mul-le_self}
-use Rattle.std.specs.Int.{bit_at, int_max, w32}
+use Rattle.std.specs.Int.{bit_at, int_max}
 use Rattle.std.proofs.lemmas.List.{append_assoc}
 use Rattle.std.proofs.lemmas.List.Elements.{filter_more}
-use mir.Val.{to_z, of_z}
-use Rattle.std.proofs.lemmas.Nat.{pow_pos, le-div}
-use Rattle.std.proofs.lemmas.Int.{ints, to_z-of_z, fits_signed_from_abs}
+use Rattle.std.proofs.lemmas.Int.{ints}
 use Rattle.std.proofs.lemmas.Bool.{cases_eq}
-use Rattle.arena_geo.specs.declared.vec3.Vec3.{Vec3}
-use Rattle.arena_geo.specs.Vectors.{IsNear}
 use Rattle.arena_geo.specs.Bounds.{Bounds}
 use Rattle.arena_geo.specs.Boxes.{overlaps_on, overlaps}
 use Rattle.arena_geo.proofs.Containment.{three_pass}
+use Rattle.arena_geo.proofs.Strips.{shr-mono, past-mono, min-mono}
 use Rattle.arena_actions.specs.declared.marks.Marks.{Marks}
 use Rattle.arena_actions.specs.declared.strips.Strips.{Strips}
 use Rattle.arena_actions.specs.declared.solid_index.Look.{Look}
 use Rattle.arena_actions.specs.declared.solid_index.SolidIndex.{SolidIndex}
 use Rattle.arena_actions.specs.Indexes.{strip_of, HasInterval, AddsSolids, IsLookAt}
 use Rattle.arena_actions.proofs.Marking.{both_set}
-
-shr-mono : (a b k : ℕ) → a ≤ b → a / 2 ^ k ≤ b / 2 ^ k
-shr-mono a b k less = le-div (a / 2 ^ k) b (2 ^ k) (pow_pos k) (omega (arith, less, div-mul-le_self a (2 ^ k)))
-
-past-mono : (from a b : ℤ) → a ≤ℤ b → unsigned_abs (int_max a from -ℤ from) ≤ unsigned_abs (int_max b from -ℤ from)
-past-mono from a b less = grind (arith, ints)
-
-min-mono : (a b c : ℕ) → a ≤ b → min a c ≤ min b c
-min-mono a b c less = omega (arith, less)
 
 -- a place after another lies in no strip before the other's
 pub strips_rise : (strips : Strips) (a b : ℤ) → a ≤ℤ b → strip_of strips a ≤ strip_of strips b
@@ -113,13 +100,3 @@ pushed test xs at next x start before after below x_is before_is after_is none =
     ∙ append_assoc start (filter test (take at xs)) (cond (test x) (x ∷ []) [])
     ∙ ap (λ (l : List Bounds). start ++ l)
     (ap (λ (y : Bounds). filter test (take at xs) ++ cond (test y) (y ∷ []) []) x_is ∙ sym (filter_more test xs at x below) ∙ sym none)
-
--- a coordinate that is read is that coordinate
-read_back : (v : ℤ) → unsigned_abs v ≤ 2097152 → to_z w32 (of_z w32 v) ≡ v
-read_back v near = to_z-of_z w32 v (fits_signed_from_abs w32 v (omega (arith, near)))
-
-pub read_x : (result corner : Vec3) → result ≡ corner → IsNear 2097152 corner → to_z w32 (of_z w32 result.x) ≡ corner.x
-read_x result corner is near = ap (λ (v : Vec3). to_z w32 (of_z w32 v.x)) is ∙ read_back corner.x near.x
-
-pub read_y : (result corner : Vec3) → result ≡ corner → IsNear 2097152 corner → to_z w32 (of_z w32 result.y) ≡ corner.y
-read_y result corner is near = ap (λ (v : Vec3). to_z w32 (of_z w32 v.y)) is ∙ read_back corner.y near.y

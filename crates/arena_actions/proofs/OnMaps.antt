@@ -7,16 +7,16 @@ use Rattle.std.proofs.lemmas.Bool.{ne_eqb}
 use Rattle.std.proofs.lemmas.Bool.Decides.{nat_tests}
 use Rattle.std.proofs.lemmas.List.Elements.{All-contains, All-get_or, All-map, All-weaker, recursion_from_All}
 use Rattle.arena_geo.specs.Bounds.{Bounds}
-use Rattle.arena_geo.specs.Boxes.{is_blocked}
+use Rattle.arena_geo.specs.Boxes.{is_blocked, contains}
 use Rattle.entity_recs.specs.declared.effect.Effect.{Effect}
 use Rattle.entity_recs.specs.declared.effect.NewState.{NewState}
 use Rattle.entity_recs.specs.declared.kind.Kind.{Kind}
-use Rattle.entity_recs.specs.declared.kind.Kind.TheVariants.{Player, Ammo, Gem, Teleporter, Goal, Lift}
+use Rattle.entity_recs.specs.declared.kind.Kind.TheVariants.{Player}
 use Rattle.entity_recs.specs.declared.rec.Rec.{Rec}
-use Rattle.entity_recs.specs.Kinds.{is_item}
 use Rattle.entity_recs.specs.Records.{IsIdOf, IsRecord, with_state}
 use Rattle.entity_recs.specs.Bodies.{body_of}
 use Rattle.entity_recs.specs.Commands.{Command}
+use Rattle.entity_recs.proofs.Ids.{thing_id}
 use Rattle.arena_map.specs.Maps.{MapView, solids_of}
 use Rattle.trigger_rules.specs.Touching.{Walk, first_walk, solids_among, touched}
 use Rattle.trigger_rules.specs.Laws.{IsTaken, AreTaken, IsPlayerOn, is_same_record}
@@ -27,7 +27,7 @@ use Rattle.arena_actions.specs.Outcomes.{moved_among, effect_of, outcome_in, ris
 use Rattle.arena_actions.specs.Regions.{region_in, shot_region}
 use Rattle.arena_actions.specs.ShotLaws.{IsLying, DownPlayersLie, DownPlayersRise, ShotsFollowMoves, MapsDecide, IsMoverAfter, MoversStayThemselves, MoversStayOnMaps, MoversStayFree, HasFewInOrder, RepliesAreShort}
 use Rattle.arena_actions.specs.Lawful.Moves.{stay_on_maps, keep_who_moves, stay_free, take_what_is_there, new_states_apart, replied_rise}
-use Rattle.arena_actions.specs.Lawful.Shots.{on_in_state, lying_on, shooter_on}
+use Rattle.arena_actions.specs.Lawful.Shots.{on_in_state, lying_on, shooter_on, all_and_one}
 use Rattle.arena_actions.proofs.Shooting.{down_is, moves_is}
 
 -- ---- who is down
@@ -204,18 +204,6 @@ rise_first x xs all rise (suc k) below =
     let e : suc k + 1 ≡ suc (k + 1) = omega arith in
     subst (λ (j : ℕ). slice_index (x ∷ xs) (suc k) < slice_index (x ∷ xs) j) (sym e) (rise k (omega (arith, below)))
 
-thing_id : (k : Kind) (id : ℕ) → is_item k ≡ true → IsIdOf k id → 64 ≤ id
-thing_id Player id item is = cc
-thing_id Ammo id item is = is.least
-thing_id Gem id item is = is.least
-thing_id Teleporter id item is = cc
-thing_id Goal id item is = cc
-thing_id Lift id item is = cc
-
-all_and_one : {X : Type 0} (P : X → Type 0) (xs : List X) (x : X) → AllByRecursion P xs → P x → AllByRecursion P (xs ++ x ∷ [])
-all_and_one P [] x all one = (one, tt)
-all_and_one P (y ∷ xs) x all one = (all.0, all_and_one P xs x all.1 one)
-
 apart_and_one : (xs : List NewState) (x : NewState) → IsDistinct is_same_record xs → AllByRecursion (λ (y : NewState). is_same_record y x ≡ false) xs
     → IsDistinct is_same_record (xs ++ x ∷ [])
 unfolding IsDistinct
@@ -289,3 +277,15 @@ short_replies arena me near c records rise = by (outcome_on arena me near c) (is
     by e (IsPlain none is) = subst HasFewInOrder (sym is) (plain_is_short arena me near c records rise)
     by e (Lies some is) = subst HasFewInOrder (sym is) (record { few = omega arith; rising = λ k below. absurd (omega (arith, below)); apart = tt })
     by e (Shoots some is) = subst HasFewInOrder (sym is) (shooting_reply arena (risen me) near c records rise)
+
+-- ---- tests
+
+-- what was tested is the player's body in the arena
+pub inside_by_test : (map asked : MapView) (bounds body : Bounds) (me : Rec) (inside : Bool) → asked ≡ map → bounds ≡ asked.bounds → body ≡ body_of me → inside ≡ contains bounds body → inside ≡ true
+    → contains map.bounds (body_of me) ≡ true
+inside_by_test map asked bounds body me inside asked_is bounds_are body_is inside_is is =
+    ap (λ (m : MapView). contains m.bounds (body_of me)) (sym asked_is)
+    ∙ ap (λ (b : Bounds). contains b (body_of me)) (sym bounds_are)
+    ∙ ap (contains bounds) (sym body_is)
+    ∙ sym inside_is
+    ∙ is

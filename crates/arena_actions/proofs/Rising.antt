@@ -2,15 +2,13 @@
 use Rattle.std.proofs.Common.{◌≡◌, ℕ, zero, suc, ◌+◌, ◌<◌, ◌≤◌, Bool, true, List, [], ◌∷◌, length, slice_index, map, All, ap, ◌∙◌, subst, arith}
 use Rattle.std.specs.Prelude.{nat_lt, ◌&&◌}
 use Rattle.std.specs.List.Sorted.{IsStrictlyIncreasing}
-use Rattle.std.proofs.lemmas.Bool.Decides.{nat_tests}
 use Rattle.std.proofs.lemmas.List.{length-map}
 use Rattle.std.proofs.lemmas.List.Elements.{All-get_or, All-map, All-weaker}
+use Rattle.std.proofs.lemmas.Bool.{and_parts, ltb-true}
 use Rattle.entity_recs.specs.declared.limits.TheConstants.{IDS}
-use Rattle.entity_recs.specs.declared.kind.Kind.{Kind}
-use Rattle.entity_recs.specs.declared.kind.Kind.TheVariants.{Player, Ammo, Gem, Teleporter, Goal, Lift}
 use Rattle.entity_recs.specs.declared.rec.Rec.{Rec}
-use Rattle.entity_recs.specs.Records.{IsRecord, IsIdOf}
-use Rattle.trigger_rules.proofs.Steps.{both}
+use Rattle.entity_recs.specs.Records.{IsRecord}
+use Rattle.entity_recs.proofs.Ids.{id_in}
 
 -- a number of a list that rises is at least its place
 rises : (xs : List ℕ) (k : ℕ) → IsStrictlyIncreasing xs → k < length xs → k ≤ slice_index xs k
@@ -22,15 +20,6 @@ rises xs (suc k) rise below =
     let next : slice_index xs k < slice_index xs (suc k) = subst (λ (j : ℕ). slice_index xs k < slice_index xs j) e more in
     omega (arith, before, next)
 
--- the ids of records are among the ids
-id_is_small : (kind : Kind) (id : ℕ) → IsIdOf kind id → id < IDS
-id_is_small Player id is = omega (arith, is)
-id_is_small Ammo id is = omega (arith, is.most)
-id_is_small Gem id is = omega (arith, is.most)
-id_is_small Teleporter id is = omega (arith, is.most)
-id_is_small Goal id is = omega (arith, is.most)
-id_is_small Lift id is = omega (arith, is.most)
-
 -- records in rising id are no more than there are ids
 pub few_records : (near : List Rec) → All IsRecord near → IsStrictlyIncreasing (map (λ r. r.id) near) → length near ≤ IDS
 few_records [] records rise = omega arith
@@ -40,7 +29,7 @@ few_records (r ∷ near) records rise =
     let last : length near ≤ slice_index ids (length near) = rises ids (length near) rise (omega (arith, long)) in
     let small : slice_index ids (length near) < IDS =
     All-get_or (λ (id : ℕ). id < IDS) ids (length near) 0 (omega (arith, long))
-    (All-map (λ (id : ℕ). id < IDS) (λ (s : Rec). s.id) (r ∷ near) (All-weaker IsRecord (λ (s : Rec). s.id < IDS) (λ s is. id_is_small s.kind s.id is.id) (r ∷ near) records)) in
+    (All-map (λ (id : ℕ). id < IDS) (λ (s : Rec). s.id) (r ∷ near) (All-weaker IsRecord (λ (s : Rec). s.id < IDS) (λ s is. id_in s.kind s.id is.id) (r ∷ near) records)) in
     omega (arith, last, small)
   where
     add_one : (n : ℕ) → suc n ≡ n + 1
@@ -58,15 +47,12 @@ each_below [] = true
 each_below (a ∷ []) = true
 each_below (a ∷ (b ∷ xs)) = nat_lt a b && each_below (b ∷ xs)
 
-below : (a b : ℕ) → nat_lt a b ≡ true → a < b
-below a b e = grind (arith, nat_tests)
-
 -- then the list rises
 pub rise_by_test : (xs : List ℕ) → each_below xs ≡ true → IsStrictlyIncreasing xs
 rise_by_test [] test k within = absurd (omega (arith, within))
 rise_by_test (a ∷ []) test k within = absurd (omega (arith, within))
-rise_by_test (a ∷ (b ∷ xs)) test zero within = below a b (both (nat_lt a b) (each_below (b ∷ xs)) test).0
+rise_by_test (a ∷ (b ∷ xs)) test zero within = ltb-true a b (and_parts (nat_lt a b) (each_below (b ∷ xs)) test).0
 rise_by_test (a ∷ (b ∷ xs)) test (suc k) within =
     let later : suc (k + 1) ≡ suc k + 1 = omega arith in
-    let rest = rise_by_test (b ∷ xs) (both (nat_lt a b) (each_below (b ∷ xs)) test).1 k (omega (arith, within)) in
+    let rest = rise_by_test (b ∷ xs) (and_parts (nat_lt a b) (each_below (b ∷ xs)) test).1 k (omega (arith, within)) in
     subst (λ (j : ℕ). slice_index (b ∷ xs) k < slice_index (a ∷ (b ∷ xs)) j) later rest

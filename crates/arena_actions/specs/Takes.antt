@@ -1,10 +1,10 @@
 -- Which records the action of an arena takes: those of the worlds that are valid for its map, whatever their state.
 use Rattle.std.specs.Prelude.{ℕ, ◌==◌, ◌&&◌, Bool, false, nat_lt, nat_le, Option, Some, None}
-use Rattle.std.specs.Prelude.{int_le, ◌+ℤ◌, unsigned_abs}
+use Rattle.std.specs.Prelude.{int_le, ◌+ℤ◌}
 use Rattle.std.specs.List.{find}
 use Rattle.std.specs.Ordering.{int_eq}
-use Rattle.arena_geo.specs.declared.vec3.Vec3.{Vec3}
 use Rattle.arena_geo.specs.Boxes.{contains}
+use Rattle.arena_geo.specs.Vectors.{is_near, is_same_vector}
 use Rattle.entity_recs.specs.declared.bodies.TheConstants.{PLAYER_MINS, PLAYER_MAXS}
 use Rattle.entity_recs.specs.declared.kind.Kind.{Kind}
 use Rattle.entity_recs.specs.declared.kind.Kind.TheVariants as kinds
@@ -13,14 +13,6 @@ use Rattle.entity_recs.specs.Bodies.{body_of}
 use Rattle.entity_recs.specs.Kinds.{number_of}
 use Rattle.arena_map.specs.declared.lift.Lift.{Lift}
 use Rattle.arena_map.specs.Maps.{MapView, entities_of, lift_of}
-
--- each part is at most far from 0
-abbrev pub is_near : ℕ → Vec3 → Bool
-is_near far v = nat_le (unsigned_abs v.x) far && nat_le (unsigned_abs v.y) far && nat_le (unsigned_abs v.z) far
-
--- the parts are the same
-abbrev pub is_same_vector : Vec3 → Vec3 → Bool
-is_same_vector v w = int_eq v.x w.x && int_eq v.y w.y && int_eq v.z w.z
 
 -- the numbers of a record are within their bounds and of their types
 abbrev pub has_numbers : Rec → Bool

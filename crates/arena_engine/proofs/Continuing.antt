@@ -1,5 +1,5 @@
 -- What is known of a whole recording once its front was read.
-use Rattle.std.proofs.Common.{◌≡◌, ℕ, true, false, ◌⊎◌, inl, inr, List, [], ◌∷◌, ◌++◌, Option, Some, None, IfSome, refl, sym, ap, ◌∙◌, subst, append_assoc, append-nil, cond}
+use Rattle.std.proofs.Common.{◌≡◌, ℕ, true, false, inl, inr, List, [], ◌∷◌, ◌++◌, Option, Some, None, IfSome, refl, sym, ap, ◌∙◌, subst, append_assoc, append-nil, cond}
 use Rattle.std.specs.List.{AllByRecursion}
 use Rattle.std.specs.Io.KnownBytes.{Consumes}
 use Rattle.std.proofs.lemmas.Grind.{flat_map-append}
@@ -8,20 +8,18 @@ use Rattle.edge_io.specs.Lines.{HasNoLineFeed}
 use Rattle.edge_io.specs.WholeLines.{unlines}
 use Rattle.edge_io.proofs.Feeds.{each_of_both}
 use Rattle.arena_map.specs.Maps.{MapView}
-use Rattle.demo_lines.specs.declared.stage.Stage.{Stage}
-use Rattle.demo_lines.specs.declared.stage.Stage.TheVariants.{Start, Map, Playing, Ended, Refused}
 use Rattle.demo_lines.specs.declared.event.Event.{Event}
 use Rattle.demo_lines.specs.Known.{Reading, start, is_map_whole, is_over}
 use Rattle.demo_lines.specs.Lines.{is_end}
 use Rattle.demo_lines.specs.Recording.{next, events_of_line, after, events_of}
-use Rattle.demo_lines.specs.Bytes.{last_part, lines_of, refused_at, refused_where, events_in, fault_in, events, fault, map_of}
+use Rattle.demo_lines.specs.Bytes.{last_part, lines_of, refused_where, events_in, fault_in, events, fault, map_of}
 use Rattle.demo_lines.specs.Reads.{Reads, TakesCutEnd, IsTextOf}
 use Rattle.demo_lines.proofs.Machines.{run_of-append, outputs_of-append}
-use Rattle.demo_lines.proofs.Parts.{lines_of-unlines, lines_of-none, last_part-unlines}
-use Rattle.demo_lines.proofs.Ends.{after-over}
+use Rattle.demo_lines.proofs.Parts.{lines_of-unlines, lines_of-none}
 use Rattle.demo_lines.proofs.Prefixes.{after_last}
 use Rattle.demo_lines.proofs.Joins.{whole_text}
 use Rattle.demo_lines.proofs.MapGiven.{after-kept}
+use Rattle.demo_lines.proofs.Continuing.{IsCutAt, same_refusal, cut_after_lines}
 use Rattle.out_text.specs.Collecting.{collected, frames_of}
 use Rattle.out_text.proofs.Growing.{GoesOnWith, goes_on_collected}
 
@@ -30,25 +28,6 @@ pub record Continues (r : Reading) (es : List Event) (bytes rest : List ℕ) : T
   pub events_are : events bytes ≡ es ++ events_in r rest
   pub fault_is : fault bytes ≡ fault_in r rest
   pub map_is : map_of bytes ≡ (after r (lines_of rest)).map
-
--- the lines of the whole are those that were read and those of the rest, and the last part is that of the rest, unless the
--- recording is over
-pub record IsCutAt (r : Reading) (lines : List (List ℕ)) (bytes rest : List ℕ) : Type 0 where
-  pub lines_are : lines_of bytes ≡ lines ++ lines_of rest
-  pub last_is : (last_part bytes ≡ last_part rest) ⊎ (is_over r.stage ≡ true)
-
-refused_at-over : (stage : Stage) (r : Reading) (p q : List ℕ) → is_over stage ≡ true → refused_at stage r p ≡ refused_at stage r q
-refused_at-over Start r p q over = cc
-refused_at-over Map r p q over = cc
-refused_at-over Playing r p q over = cc
-refused_at-over Ended r p q over = refl
-refused_at-over (Refused why) r p q over = refl
-
-same_refusal : (r : Reading) (lines : List (List ℕ)) (p q : List ℕ) → (p ≡ q) ⊎ (is_over r.stage ≡ true) → refused_where (after r lines) p ≡ refused_where (after r lines) q
-same_refusal r lines p q (inl same) = ap (refused_where (after r lines)) same
-same_refusal r lines p q (inr over) =
-    let here : is_over (after r lines).stage ≡ true = ap (λ (t : Reading). is_over t.stage) (after-over r lines over) ∙ over in
-    refused_at-over (after r lines).stage (after r lines) p q here
 
 pub continues_lines : (r : Reading) (lines : List (List ℕ)) (es : List Event) (bytes rest : List ℕ) → IsCutAt r lines bytes rest
     → r ≡ after start lines → events_of start lines ≡ es → Continues r es bytes rest
@@ -61,10 +40,6 @@ continues_lines r lines es bytes rest cut reached given =
       fault_is = ap (λ t. refused_where t (last_part bytes)) later ∙ same_refusal r (lines_of rest) (last_part bytes) (last_part rest) cut.last_is;
       map_is = ap (λ (t : Reading). t.map) later;
     }
-
--- whole lines, and then the rest
-pub cut_after_lines : (r : Reading) (lines : List (List ℕ)) (rest : List ℕ) → AllByRecursion HasNoLineFeed lines → IsCutAt r lines (unlines lines ++ rest) rest
-cut_after_lines r lines rest each = record { lines_are = lines_of-unlines lines rest each; last_is = inl (last_part-unlines lines rest each) }
 
 -- lines of which the last is an end without a line feed, and nothing after it
 cut_after_end : (r : Reading) (front : List (List ℕ)) (last : List ℕ) → AllByRecursion HasNoLineFeed (front ++ last ∷ []) → is_end last ≡ true → r ≡ after start (front ++ last ∷ [])

@@ -1,5 +1,5 @@
 -- How the playing of a recording ends, and what was written then.
-use Rattle.std.proofs.Common.{◌≡◌, ℕ, Bool, true, false, List, [], ◌∷◌, ◌++◌, length, ◌⊎◌, inl, inr, Option, Some, None, IfSome, refl, sym, ap, ◌∙◌, subst, append_assoc, append-nil}
+use Rattle.std.proofs.Common.{◌≡◌, ℕ, true, List, [], ◌∷◌, ◌++◌, length, ◌⊎◌, inl, inr, Option, Some, None, IfSome, refl, sym, ap, ◌∙◌, subst, append_assoc, append-nil}
 use Rattle.std.specs.List.{AllByRecursion}
 use Rattle.std.specs.Io.KnownBytes.{Appends, Consumes}
 use Rattle.std.proofs.lemmas.Grind.{flat_map-append}
@@ -16,7 +16,6 @@ use Rattle.demo_lines.specs.Bytes.{LineRefusal, lines_of, events, fault}
 use Rattle.demo_lines.specs.Reads.{Reads, ReadsFront, Refuses, IsRefusedLine, IsLongFront, IsLastPart, EndsAt}
 use Rattle.demo_lines.proofs.Machines.{run_of-append, outputs_of-append}
 use Rattle.demo_lines.proofs.Parts.{lines_of-unlines}
-use Rattle.demo_lines.proofs.Ends.{after-over}
 use Rattle.demo_lines.proofs.Joins.{whole_text}
 use Rattle.edge_io.proofs.Feeds.{each_of_both}
 use Rattle.out_text.specs.Collecting.{collected, frames_of}
@@ -26,9 +25,11 @@ use Rattle.arena_engine.specs.FedGames.{Last, no_last}
 use Rattle.arena_engine.specs.Output.{Writes, ReadsSome, ReadsToRefusal}
 use Rattle.arena_engine.specs.Texts.{Texts, play_texts}
 use Rattle.demo_lines.proofs.MapGiven.{after-whole, after-kept}
+use Rattle.demo_lines.proofs.Continuing.{cut_after_lines, IsCutAt}
+use Rattle.demo_lines.proofs.Counting.{going-before}
 use Rattle.out_text.proofs.Fronts.{AreRun, text_with, no_front, is_front, is_all_frames, front_has_last}
 use Rattle.out_text.proofs.Outputs.{nothing_reported}
-use Rattle.arena_engine.proofs.Continuing.{IsCutAt, continues, continues_lines, cut_after_lines, map_of-whole, frames_of-all, goes_on_frames}
+use Rattle.arena_engine.proofs.Continuing.{continues, continues_lines, map_of-whole, frames_of-all, goes_on_frames}
 
 -- ---- before the first event
 
@@ -88,14 +89,6 @@ module _ (texts : Texts) (hold : HoldAtFirst texts) (t : Option (List ℕ)) (las
     frames = nothing (texts.all_frames (unlines reads.lines)) (hold.all_frames (unlines reads.lines) (ap (events_of start) (lines_of-whole reads.lines reads.each) ∙ reads.events));
   }
 
--- where the recording goes on after lines it went on before them
-pub going_before : (r : Reading) (lines : List (List ℕ)) → is_over (after r lines).stage ≡ false → is_over r.stage ≡ false
-going_before r lines going = by (is_over r.stage) refl
-  where
-    by : (over : Bool) → is_over r.stage ≡ over → is_over r.stage ≡ false
-    by true is = let over : is_over (after r lines).stage ≡ true = ap (λ (t : Reading). is_over t.stage) (after-over r lines is) ∙ is in cc
-    by false is = is
-
 -- ---- while frames are played
 
 module _ (workers : ℕ) (arena : MapView) (r : Reading) (a b : Option (List ℕ)) (t0 t1 : Option (List ℕ)) (es : List Event) (js : List (List Entry)) (last : Option (List Entry)) where
@@ -145,7 +138,7 @@ module _ (workers : ℕ) (arena : MapView) (r : Reading) (a b : Option (List ℕ
       let u = after r reads.lines in
       let bytes = unlines lines in
       let each = each_of_both HasNoLineFeed played.reads.lines reads.lines played.reads.each reads.each in
-      let taken = whole_text start r played.reads.lines played.reads.text b played.reads.reached (going_before r reads.lines reads.going) played.reads.spelled in
+      let taken = whole_text start r played.reads.lines played.reads.text b played.reads.reached (going-before r reads.lines reads.going) played.reads.spelled in
       let joined : unlines lines ++ reads.front ≡ unlines played.reads.lines ++ (unlines reads.lines ++ reads.front) =
       ap (λ bs. bs ++ reads.front) (flat_map-append (λ line. line ++ 10 ∷ []) played.reads.lines reads.lines)
       ∙ append_assoc (unlines played.reads.lines) (unlines reads.lines) reads.front in
@@ -182,7 +175,7 @@ pub refusal_on : {S : Type 0} (last : S → ℕ) (s0 s1 s2 : S) (r : Reading) (a
     → ReadsToRefusal s0 s2 (last s2) same at_end a l
 refusal_on last s0 s1 s2 r a b l es n pending buffered same_then same at_end reads needed same_end refuses =
     let lines = reads.lines ++ refuses.lines in
-    let taken = whole_text start r reads.lines reads.text b reads.reached (going_before r refuses.lines refuses.going) reads.spelled in
+    let taken = whole_text start r reads.lines reads.text b reads.reached (going-before r refuses.lines refuses.going) reads.spelled in
     let reached : after r refuses.lines ≡ after start lines =
     ap (λ t. after t refuses.lines) reads.reached ∙ sym (run_of-append next events_of_line start reads.lines refuses.lines) in
     let joined : unlines lines ++ refuses.last ≡ unlines reads.lines ++ (unlines refuses.lines ++ refuses.last) =

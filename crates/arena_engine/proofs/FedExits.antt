@@ -23,10 +23,12 @@ use Rattle.arena_engine.specs.FedGames.{Last}
 use Rattle.arena_engine.specs.Texts.{feed_texts}
 use Rattle.arena_engine.specs.FedProgress.{IsLastOf}
 use Rattle.demo_lines.proofs.MapGiven.{after-whole, after-kept}
+use Rattle.demo_lines.proofs.Continuing.{cut_after_lines, IsCutAt}
+use Rattle.demo_lines.proofs.Counting.{going-before}
 use Rattle.out_text.proofs.Fronts.{AreRun}
 use Rattle.out_text.proofs.FedFronts.{fed_text_with, no_fed_front, no_fed_last, is_fed_front, is_fed_frames, fed_front_has_last}
-use Rattle.arena_engine.proofs.Continuing.{IsCutAt, continues, continues_lines, cut_after_lines, map_of-whole, frames_of-all, goes_on_frames}
-use Rattle.arena_engine.proofs.Exits.{HoldAtFirst, frames_of-none, going_before}
+use Rattle.arena_engine.proofs.Continuing.{continues, continues_lines, map_of-whole, frames_of-all, goes_on_frames}
+use Rattle.arena_engine.proofs.Exits.{HoldAtFirst, frames_of-none}
 
 -- ---- before the first event
 
@@ -95,7 +97,7 @@ module _ (workers : ℕ) (arena : MapView) (r : Reading) (a b : Option (List ℕ
       let u = after r reads.lines in
       let bytes = unlines lines in
       let each = each_of_both HasNoLineFeed played.reads.lines reads.lines played.reads.each reads.each in
-      let taken = whole_text start r played.reads.lines played.reads.text b played.reads.reached (going_before r reads.lines reads.going) played.reads.spelled in
+      let taken = whole_text start r played.reads.lines played.reads.text b played.reads.reached (going-before r reads.lines reads.going) played.reads.spelled in
       let joined : unlines lines ++ reads.front ≡ unlines played.reads.lines ++ (unlines reads.lines ++ reads.front) =
       ap (λ bs. bs ++ reads.front) (flat_map-append (λ line. line ++ 10 ∷ []) played.reads.lines reads.lines)
       ∙ append_assoc (unlines played.reads.lines) (unlines reads.lines) reads.front in

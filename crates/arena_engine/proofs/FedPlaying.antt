@@ -10,6 +10,7 @@ use Rattle.packet_read.specs.declared.arrival.Arrival.{Arrival}
 use Rattle.plain_server.specs.RecordsById.{opening}
 use Rattle.plain_server.specs.Frames.{state_played, journals_of}
 use Rattle.plain_server.proofs.Frames.{right_in_order, order_in_order}
+use Rattle.plain_server.proofs.Turns.{right_count}
 use Rattle.frame_phases.specs.Servers.{ServerView}
 use Rattle.demo_lines.specs.declared.stage.Stage.TheVariants.{Playing, Ended}
 use Rattle.demo_lines.specs.declared.event.Event.{Event}
@@ -27,7 +28,7 @@ use Rattle.packet_read.specs.Orders.{in_order, AreEachOnce}
 use Rattle.out_text.specs.Feeds.{AreFeedsOf, RiseByParity, IsLastOrder, last_fed, with_froms, fed_lines, HasLastFed, IsFedOutput, IsFedCut, IsFedSome}
 use Rattle.out_text.proofs.Growing.{GoesOnWith}
 use Rattle.out_text.proofs.Agreement.{Agrees}
-use Rattle.out_text.proofs.Runs.{length-right, right-append, in_order-append, text_of-append}
+use Rattle.out_text.proofs.Runs.{right-append, in_order-append, text_of-append}
 use Rattle.out_text.proofs.Fronts.{AreRun, IsPlayed, none_are_run, last_of-push}
 use Rattle.out_text.proofs.FedRuns.{length-feeds, feeds-push, feeds-append, feeds-own, fed_lines-append, fed_lines-push}
 use Rattle.out_text.proofs.FedFronts.{fed_lines_of, fed_text_with, fed_whole, fed_front_has_last, fed_out_has_last, fed_output-is, fed_right, fed_in_turn, is_fed_front, is_fed_output, fed_frame_cut, fed_end_cut, fed_last_cut}
@@ -90,7 +91,7 @@ closed_by workers arena closed feeds js (Some arrivals) old new None are run at 
 closed_by workers arena closed feeds js (Some arrivals) old new (Some c) are run at runs =
     let fed = in_order c.order arrivals in
     let more = one_more workers arena feeds js fed old new c.journal run at runs.runs in
-    let count = length-right arena 0 (opening arena) feeds js run.right in
+    let count = right_count arena 0 (opening arena) feeds js run.right in
     record {
       others = fed ∷ [];
       more = c.journal ∷ [];
@@ -207,7 +208,7 @@ module _ (workers : ℕ) (bytes : List ℕ) (arena : MapView) (played : IsPlayed
         let order_is : last.order ≡ Some c.order = ap (λ (l : Last). l.order) is in
         let journal_is : last.journal ≡ last_of (js ++ c.journal ∷ []) = ap (λ (l : Last). l.journal) is ∙ sym (last_of-push js c.journal) in
         subst (λ (o : Option (List ℕ)). P o last.journal) (sym order_is) (subst (P (Some c.order)) (sym journal_is)
-        (inl (fed_frame_cut workers bytes arena played closed feeds arrivals fed js c.journal (Some c.order) (fed_closing_lines old (Some arrivals) (Some c)) count (length-right arena 0 (opening arena) feeds js run.right) on
+        (inl (fed_frame_cut workers bytes arena played closed feeds arrivals fed js c.journal (Some c.order) (fed_closing_lines old (Some arrivals) (Some c)) count (right_count arena 0 (opening arena) feeds js run.right) on
         (feeds-push closed feeds arrivals fed are runs.feed) more.run (last_order-push closed feeds arrivals c.order runs.places runs.rising) (ap (with_froms fed) more.lines_are) short)))
 
     cut_end : (waiting : Option (List Arrival)) (old new : ServerView) (c : Option Closing) (count : ℕ) → last ≡ newest_last c before → AreRun workers arena feeds js
@@ -233,7 +234,7 @@ module _ (workers : ℕ) (bytes : List ℕ) (arena : MapView) (played : IsPlayed
         let order_is : last.order ≡ Some c.order = ap (λ (l : Last). l.order) is in
         let journal_is : last.journal ≡ last_of (js ++ c.journal ∷ []) = ap (λ (l : Last). l.journal) is ∙ sym (last_of-push js c.journal) in
         subst (λ (o : Option (List ℕ)). P o last.journal) (sym order_is) (subst (P (Some c.order)) (sym journal_is)
-        (inr (fed_last_cut workers bytes arena played closed feeds arrivals fed js c.journal (Some c.order) (fed_closing_lines old (Some arrivals) (Some c) ++ EndLine new.frames ∷ []) count (length-right arena 0 (opening arena) feeds js run.right) accepted all
+        (inr (fed_last_cut workers bytes arena played closed feeds arrivals fed js c.journal (Some c.order) (fed_closing_lines old (Some arrivals) (Some c) ++ EndLine new.frames ∷ []) count (right_count arena 0 (opening arena) feeds js run.right) accepted all
         (feeds-push closed feeds arrivals fed are runs.feed) more.run (last_order-push closed feeds arrivals c.order runs.places runs.rising) (λ i. with_froms fed (more.lines_are i) ++ EndLine (more.at.frames i) ∷ []) short)))
 
   -- ---- what fits
@@ -254,7 +255,7 @@ module _ (workers : ℕ) (bytes : List ℕ) (arena : MapView) (played : IsPlayed
       let ks = journals_of arena (0 + length feeds) s on.rest in
       let longer = closed ++ on.rest in
       let longer_feeds = feeds ++ on.rest in
-      let count = length-right arena 0 (opening arena) feeds js run.right in
+      let count = right_count arena 0 (opening arena) feeds js run.right in
       let all_run : AreRun workers arena longer_feeds (js ++ ks) = record {
         right = right-append arena 0 (opening arena) feeds on.rest js ks run.right (right_in_order arena (0 + length feeds) s on.rest);
         order = λ one. in_order-append arena 0 (opening arena) feeds on.rest js ks (run.order one) (order_in_order arena (0 + length feeds) s on.rest);

@@ -1,5 +1,5 @@
 -- Reading a recording to its end, for its map alone.
-use Rattle.std.proofs.Common.{◌≡◌, ℕ, ◌≤◌, Bool, true, false, List, [], ◌∷◌, ◌++◌, ◌⊎◌, inl, inr, Some, None, IfSome, IsSome, refl, sym, ap, ◌∙◌, subst}
+use Rattle.std.proofs.Common.{◌≡◌, ℕ, ◌≤◌, true, false, List, [], ◌∷◌, ◌++◌, ◌⊎◌, inl, inr, Some, None, IfSome, IsSome, refl, sym, ap, ◌∙◌, subst}
 use Rattle.std.proofs.KnownBytes.{Consumes-nil, prepend_known-nil}
 use Rattle.std.specs.Io.KnownBytes.{Consumes}
 use Rattle.edge_io.specs.declared.source.Source as sources
@@ -17,6 +17,7 @@ use Rattle.demo_lines.specs.Bytes.{LineRefusal, last_part, lines_of, refused_at,
 use Rattle.demo_lines.specs.Reads.{DemoReaderView, fresh_reader, IsOpen, Reads, EndsAt, KeepsMap, TakesCutEnd, stage_after}
 use Rattle.demo_lines.proofs.Ends.{after-over}
 use Rattle.demo_lines.proofs.Joins.{Reads-trans}
+use Rattle.transcript_check.proofs.Recording.{map-there}
 use Rattle.arena_engine.specs.Games.{is_end}
 use Rattle.arena_engine.specs.MapReads.{GivesMap, GivesStop}
 use Rattle.arena_engine.proofs.Continuing.{continues, map_of-whole, cut_end_after}
@@ -35,14 +36,6 @@ ended-stage : (e : Event) → is_end e ≡ true → stage_after e ≡ Ended
 ended-stage Frame is = cc
 ended-stage (From a) is = cc
 ended-stage End is = refl
-
--- a map is there after an event
-map-there : (old new : Reading) → (is_map_whole old.stage ≡ true → IsSome old.map) → KeepsMap old new → IsSome new.map
-map-there old new has keeps = by (is_map_whole old.stage) refl
-  where
-    by : (whole : Bool) → is_map_whole old.stage ≡ whole → IsSome new.map
-    by true e = subst IsSome (sym (keeps.kept e)) (has e)
-    by false e = keeps.completed e
 
 -- a reading that has ended has no fault
 ended-faultless : (r : Reading) (bytes : List ℕ) → r.stage ≡ Ended → fault_in r bytes ≡ None

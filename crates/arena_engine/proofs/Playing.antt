@@ -12,6 +12,7 @@ use Rattle.client_ports.specs.States.{State}
 use Rattle.plain_server.specs.RecordsById.{opening}
 use Rattle.plain_server.specs.Frames.{received_in, state_played, IsRightAfter, journals_of}
 use Rattle.plain_server.proofs.Frames.{right_in_order, order_in_order}
+use Rattle.plain_server.proofs.Turns.{right_count}
 use Rattle.frame_phases.specs.Servers.{ServerView, server_after}
 use Rattle.demo_lines.specs.declared.stage.Stage.{Stage}
 use Rattle.demo_lines.specs.declared.stage.Stage.TheVariants.{Playing, Ended}
@@ -31,7 +32,7 @@ use Rattle.out_text.specs.Collecting.{Frames, closing, collect, collected, no_fr
 use Rattle.out_text.specs.Output.{last_of, HasLast, AreRightIn, AreInOrderIn, IsOutput, IsCut, IsSomeFrames}
 use Rattle.out_text.proofs.Growing.{GoesOnWith, collected-append}
 use Rattle.out_text.proofs.Agreement.{Agrees, AgreesAt, NoneYet, OneOpen, AllClosed, agrees_lines}
-use Rattle.out_text.proofs.Runs.{length-right, run_lines-append, run_lines-push, state_played-push, right-append, right-push, in_order-append, in_order-push, text_of-append}
+use Rattle.out_text.proofs.Runs.{run_lines-append, run_lines-push, state_played-push, right-append, right-push, in_order-append, in_order-push, text_of-append}
 use Rattle.out_text.proofs.Fronts.{AreRun, IsPlayed, lines_of, text_with, whole_text, none_are_run, last_of-push, front_has_last, out_has_last, out_text-is, is_front, is_output, frame_cut, end_cut, last_cut}
 use Rattle.playback.specs.Playbacks.{RunsFrame, Closes, MayClose, IsReady}
 use Rattle.arena_engine.specs.Games.{GameView, new_game, newest, Advances, closing_lines, event_lines, is_end}
@@ -65,7 +66,7 @@ pub one_more : (workers : ℕ) (arena : MapView) (closed : List (List Arrival)) 
 one_more workers arena closed js arrivals old new j run at runs =
     let same = same_server arena closed js old at in
     let s = state_played arena 0 (opening arena) closed js in
-    let count = length-right arena 0 (opening arena) closed js run.right in
+    let count = right_count arena 0 (opening arena) closed js run.right in
     let right = subst (λ (t : ServerView). IsRightAfter t.map (received_in t.map t.frames t.state arrivals) j) same runs.right in
     let order = λ (one : workers ≡ 1). subst (λ (t : ServerView). IsInOrder j (received_in t.map t.frames t.state arrivals).lists.moves) same (runs.order one) in
     let next = runs.next ∙ ap (λ (t : ServerView). server_after t arrivals j) same in
@@ -190,7 +191,7 @@ module _ (workers : ℕ) (bytes : List ℕ) (arena : MapView) (played : IsPlayed
         let more = one_more workers arena closed js arrivals old new j run at runs in
         let P : Option (List Entry) → Type 0 = λ l. IsCut workers bytes l (text_with arena closed js ++ take count (text_of (closing_lines old (Some arrivals) (Some j)))) in
         subst P (last_of-push js j ∙ sym is)
-        (inl (frame_cut workers bytes arena played closed arrivals js j (closing_lines old (Some arrivals) (Some j)) count (length-right arena 0 (opening arena) closed js run.right) on more.run more.lines_are short))
+        (inl (frame_cut workers bytes arena played closed arrivals js j (closing_lines old (Some arrivals) (Some j)) count (right_count arena 0 (opening arena) closed js run.right) on more.run more.lines_are short))
 
     cut_end : (opened : Option (List Arrival)) (old new : ServerView) (j : Option (List Entry)) (count : ℕ) → last ≡ newest j before → AreRun workers arena closed js
         → IsServerAt arena closed js old → Closes workers old new opened j → fault bytes ≡ None → frames_of bytes ≡ closed ++ closing opened
@@ -209,7 +210,7 @@ module _ (workers : ℕ) (bytes : List ℕ) (arena : MapView) (played : IsPlayed
         let more = one_more workers arena closed js arrivals old new j run at runs in
         let P : Option (List Entry) → Type 0 = λ l. IsCut workers bytes l (text_with arena closed js ++ take count (text_of (closing_lines old (Some arrivals) (Some j) ++ EndLine new.frames ∷ []))) in
         subst P (last_of-push js j ∙ sym is)
-        (inr (last_cut workers bytes arena played closed arrivals js j (closing_lines old (Some arrivals) (Some j) ++ EndLine new.frames ∷ []) count (length-right arena 0 (opening arena) closed js run.right) accepted all
+        (inr (last_cut workers bytes arena played closed arrivals js j (closing_lines old (Some arrivals) (Some j) ++ EndLine new.frames ∷ []) count (right_count arena 0 (opening arena) closed js run.right) accepted all
         more.run (λ i. more.lines_are i ++ EndLine (more.at.frames i) ∷ []) short))
 
   -- ---- what fits
@@ -235,7 +236,7 @@ module _ (workers : ℕ) (bytes : List ℕ) (arena : MapView) (played : IsPlayed
       let s = state_played arena 0 (opening arena) closed js in
       let ks = journals_of arena (0 + length closed) s on.rest in
       let longer = closed ++ on.rest in
-      let count = length-right arena 0 (opening arena) closed js run.right in
+      let count = right_count arena 0 (opening arena) closed js run.right in
       let all_run : AreRun workers arena longer (js ++ ks) = record {
         right = right-append arena 0 (opening arena) closed on.rest js ks run.right (right_in_order arena (0 + length closed) s on.rest);
         order = λ one. in_order-append arena 0 (opening arena) closed on.rest js ks (run.order one) (order_in_order arena (0 + length closed) s on.rest);

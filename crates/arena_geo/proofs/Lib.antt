@@ -4,3 +4,6 @@ pub mod Ranges
 pub mod Containment
 pub mod CommonPoints
 pub mod Squares
+pub mod Overlaps
+pub mod Quotients
+pub mod Strips

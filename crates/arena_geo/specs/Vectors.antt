@@ -1,6 +1,7 @@
 -- Vectors: what holds of their parts, and their operations, axis by axis.
-use Rattle.std.specs.Prelude.{ℕ, ℤ, ◌≤◌, ◌+ℤ◌, ◌-ℤ◌, ◌≤ℤ◌, pos, unsigned_abs, FitsSigned}
+use Rattle.std.specs.Prelude.{ℕ, nat_le, Bool, ◌&&◌, ℤ, ◌≤◌, ◌+ℤ◌, ◌-ℤ◌, ◌≤ℤ◌, pos, unsigned_abs, FitsSigned}
 use Rattle.std.specs.Int.{w32, int_min, int_max}
+use Rattle.std.specs.Ordering.{int_eq}
 use Rattle.arena_geo.specs.declared.vec3.Vec3.{Vec3}
 
 -- the vector with these parts
@@ -16,6 +17,14 @@ pub record IsNear (far : ℕ) (v : Vec3) : Type 0 where
   pub x : unsigned_abs v.x ≤ far
   pub y : unsigned_abs v.y ≤ far
   pub z : unsigned_abs v.z ≤ far
+
+-- each part is at most far from 0, as a test
+abbrev pub is_near : ℕ → Vec3 → Bool
+is_near far v = nat_le (unsigned_abs v.x) far && nat_le (unsigned_abs v.y) far && nat_le (unsigned_abs v.z) far
+
+-- the parts of two vectors are equal, as a test
+abbrev pub is_same_vector : Vec3 → Vec3 → Bool
+is_same_vector v w = int_eq v.x w.x && int_eq v.y w.y && int_eq v.z w.z
 
 -- each part of v is an i32
 pub record Fits (v : Vec3) : Type 0 where

@@ -6,11 +6,6 @@ use Rattle.arena_geo.specs.Vectors.{IsNear, Fits, plus}
 use Rattle.arena_geo.specs.Bounds.{bounds, IsOrdered, IsBox}
 use Rattle.arena_map.specs.Places.{is_long, is_wide, is_thick, item_body, upwards, shaft}
 
--- the two parts of a test that passes
-pub both_parts : (a b : Bool) → (a && b) ≡ true → (a ≡ true) × (b ≡ true)
-both_parts true b h = (refl, h)
-both_parts false b h = cc
-
 pub three_parts : (a b c : Bool) → (a && b && c) ≡ true → (a ≡ true) × (b ≡ true) × (c ≡ true)
 three_parts true true c h = (refl, refl, h)
 three_parts true false c h = cc

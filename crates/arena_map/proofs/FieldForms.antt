@@ -1,33 +1,30 @@
 -- Fields that have their forms are texts of these forms, each after a space.
 use Rattle.std.proofs.Common.{◌≡◌, ℕ, ◌<◌, ◌==◌, Bool, true, false, not, ◌&&◌, cond, List, [], ◌∷◌, ◌++◌, Option, Some, None, is_some, codes, bytes_eq, refl, sym, ap, ◌∙◌, subst, arith}
 use Rattle.std.proofs.lemmas.Bool.Decides.{nat_tests}
+use Rattle.std.proofs.lemmas.Bool.{and_parts}
 use Rattle.entity_recs.specs.declared.kind.Kind.{Kind}
 use Rattle.edge_io.specs.Numbers.{is_digit, are_digits, is_natural, is_integer}
 use Rattle.edge_io.specs.Fields.{field_at, field_text}
-use Rattle.edge_io.proofs.FieldTexts.{AreAbove, IsEnd, field_at-field, field_at-whole}
+use Rattle.edge_io.proofs.FieldTexts.{AreAbove, IsEnd, field_at-field, field_at-whole, digit_above}
 use Rattle.arena_map.specs.declared.map_word.MapField.{MapField}
 use Rattle.arena_map.specs.declared.map_word.MapField.TheVariants.{Number, ItemKind}
 use Rattle.arena_map.specs.Words.{item_kind}
 use Rattle.arena_map.specs.Reading.{is_field, is_field_first, has_fields}
 use Rattle.arena_map.specs.Causes.{spaced, AreOfForm, IsOfFields}
 use Rattle.arena_map.specs.Laws.{FieldsAreSpaced}
-use Rattle.arena_map.proofs.Boxes.{both_parts}
 use Rattle.arena_map.proofs.LinesSound.{kind-spelled}
 use Rattle.arena_map.proofs.LinesBack.{kind-above}
 
 -- ---- no field has a space
 
-digit_above : (d : ℕ) → is_digit d ≡ true → 32 < d
-digit_above d h = grind (arith, nat_tests)
-
 digits_above : (ds : List ℕ) → are_digits ds ≡ true → AreAbove 32 ds
 digits_above [] h = tt
-digits_above (d ∷ ds) h = let parts = both_parts (is_digit d) (are_digits ds) h in (digit_above d parts.0, digits_above ds parts.1)
+digits_above (d ∷ ds) h = let parts = and_parts (is_digit d) (are_digits ds) h in (digit_above d parts.0, digits_above ds parts.1)
 
 natural_above : (text : List ℕ) → is_natural text ≡ true → AreAbove 32 text
 natural_above [] h = tt
 natural_above (d ∷ []) h = digits_above (d ∷ []) h
-natural_above (d ∷ e ∷ ds) h = digits_above (d ∷ e ∷ ds) (both_parts (not (d == 48)) (are_digits (d ∷ e ∷ ds)) h).1
+natural_above (d ∷ e ∷ ds) h = digits_above (d ∷ e ∷ ds) (and_parts (not (d == 48)) (are_digits (d ∷ e ∷ ds)) h).1
 
 number_above : (text : List ℕ) → is_integer text ≡ true → AreAbove 32 text
 number_above [] h = tt
@@ -37,7 +34,7 @@ number_above (b ∷ bs) h = by (b == 45) refl h
     minus e = grind (arith, nat_tests)
 
     by : (m : Bool) → (b == 45) ≡ m → cond m (is_natural bs && not (bytes_eq bs (codes "0"))) (is_natural (b ∷ bs)) ≡ true → AreAbove 32 (b ∷ bs)
-    by true e k = (minus e, natural_above bs (both_parts (is_natural bs) (not (bytes_eq bs (codes "0"))) k).0)
+    by true e k = (minus e, natural_above bs (and_parts (is_natural bs) (not (bytes_eq bs (codes "0"))) k).0)
     by false e k = natural_above (b ∷ bs) k
 
 kind_above : (text : List ℕ) (o : Option Kind) → item_kind text ≡ o → is_some o ≡ true → AreAbove 32 text
@@ -65,7 +62,7 @@ of_fields (field ∷ fields) rest h = by (λ after is. of_fields fields after is
     by : ((after : List ℕ) → has_fields fields after ≡ true → IsOfFields fields after) → (o : Option (List ℕ × List ℕ)) → field_at rest ≡ o → is_field_first field o (has_fields fields) ≡ true → IsOfFields (field ∷ fields) rest
     by later None e k = cc
     by later (Some parts) e k =
-        let both = both_parts (is_field field parts.0) (has_fields fields parts.1) k in
+        let both = and_parts (is_field field parts.0) (has_fields fields parts.1) k in
         let more = later parts.1 both.1 in
         record {
           texts = parts.0 ∷ more.texts;

@@ -1,6 +1,6 @@
 -- That the rule that a line breaks is the first one that the map with it breaks.
-use Rattle.std.proofs.Common.{◌≡◌, ℕ, ◌+◌, ◌-◌, ◌<◌, ◌≤◌, ◌==◌, Bool, true, false, if◌then◌else◌, [], ◌∷◌, Option, Some, None, All, get_or, refl, sym, ap, ◌∙◌, subst, arith, length-append}
-use Rattle.std.proofs.lemmas.Bool.{eqb-true}
+use Rattle.std.proofs.Common.{◌≡◌, ℕ, ◌+◌, ◌-◌, ◌<◌, ◌≤◌, ◌==◌, Bool, true, false, if◌then◌else◌, ◌∷◌, Option, Some, None, All, get_or, refl, sym, ap, ◌∙◌, subst, arith, length-append, []}
+use Rattle.std.proofs.lemmas.Bool.{eqb-true, ltb-true, not-true}
 use Rattle.std.proofs.lemmas.Bool.Decides.{nat_tests}
 use Rattle.std.proofs.lemmas.List.Elements.{All-from_recursion, filter_map-append}
 use Rattle.arena_geo.specs.declared.vec3.Vec3.{Vec3}
@@ -17,7 +17,7 @@ use Rattle.arena_map.specs.Places.{is_wide, is_box_inside, is_player_inside, sha
 use Rattle.arena_map.specs.Maps.{MapView, shafts_of, IsMap}
 use Rattle.arena_map.specs.Rules.{broken_by_arena, bare_map, broken_rule, with_block, with_spawn, with_thing, with_depth, with_shots, with_line}
 use Rattle.arena_map.specs.KeptRules.{KeepsRule, IsFirstBroken}
-use Rattle.arena_map.proofs.Keeping.{all-push, lt-from, not-true, first_broken, clear-more, few-more, item-room, teleporter-room, goal-room, lift-room, HasShafts, shafts-more, first-line}
+use Rattle.arena_map.proofs.Keeping.{all-push, first_broken, clear-more, few-more, item-room, teleporter-room, goal-room, lift-room, HasShafts, shafts-more, first-line}
 use Rattle.arena_map.proofs.Breaking.{passes, line-passes, map-keeps}
 
 true-false : true ≡ false → ⊥
@@ -38,7 +38,7 @@ block-keeps map lo hi is fault.Box pass =
 block-keeps map lo hi is fault.Count pass =
     let kept = is fault.Count in
     record {
-      blocks = omega (arith, lt-from _ _ pass, length-append map.blocks (bounds lo hi ∷ []));
+      blocks = omega (arith, ltb-true _ _ pass, length-append map.blocks (bounds lo hi ∷ []));
       spawns = kept.spawns;
       items = kept.items;
       teleporters = kept.teleporters;
@@ -63,7 +63,7 @@ spawn-keeps map at is fault.Count pass =
     let kept = is fault.Count in
     record {
       blocks = kept.blocks;
-      spawns = omega (arith, lt-from _ _ pass, length-append map.spawns (at ∷ []));
+      spawns = omega (arith, ltb-true _ _ pass, length-append map.spawns (at ∷ []));
       items = kept.items;
       teleporters = kept.teleporters;
       goals = kept.goals;

@@ -1,11 +1,12 @@
 -- That lines which break no rule give maps that keep the rules.
-use Rattle.std.proofs.Common.{◌≡◌, ℕ, ◌+◌, ◌<◌, ◌≤◌, ◌==◌, Bool, true, false, not, ◌||◌, cond, if◌then◌else◌, nat_lt, List, [], ◌∷◌, ◌++◌, Option, Some, None, All, AllPairs, count_by, filter_map, get_or, refl, sym, ap, ◌∙◌, subst, arith, length-append, append-nil}
+use Rattle.std.proofs.Common.{◌≡◌, ℕ, ◌+◌, ◌<◌, ◌≤◌, ◌==◌, Bool, true, false, not, ◌||◌, cond, if◌then◌else◌, List, [], ◌∷◌, ◌++◌, Option, Some, None, All, AllPairs, count_by, filter_map, get_or, refl, sym, ap, ◌∙◌, subst, arith, length-append, append-nil}
 use Rattle.std.specs.List.{list_any}
 use Rattle.std.proofs.lemmas.Bool.Decides.{nat_tests}
 use Rattle.std.proofs.lemmas.List.Elements.{All-append, All-from_recursion, filter_map-append}
 use Rattle.std.proofs.lemmas.List.Folds.{list_any-append, list_any_at}
 use Rattle.std.proofs.lemmas.List.Quantifiers.{all_pairs_push}
 use Rattle.std.proofs.lemmas.List.Sums.{sum_by-append, sum_by-cons}
+use Rattle.std.proofs.lemmas.Bool.{and_parts, ltb-true, not-true}
 use Rattle.arena_geo.specs.declared.vec3.Vec3.{Vec3}
 use Rattle.arena_geo.specs.Vectors.{IsNear}
 use Rattle.arena_geo.specs.Bounds.{Bounds, bounds}
@@ -20,7 +21,7 @@ use Rattle.arena_map.specs.MapLines.{IsWithinLimits, is_thing_line, is_item_line
 use Rattle.arena_map.specs.Places.{is_wide, is_thick, shaft, shaft_of, has_thick_lift, keeps_box, keeps_stand, keeps_item, keeps_travel}
 use Rattle.arena_map.specs.Maps.{MapView, shafts_of, IsSpawn, IsBlock, IsThingInside, IsMap}
 use Rattle.arena_map.specs.Rules.{broken_by_arena, bare_map, keeps_count, meets_shaft, keeps_shafts, broken_rule, with_block, with_spawn, with_thing, with_depth, with_shots, with_line}
-use Rattle.arena_map.proofs.Boxes.{both_parts, near_box, wide_ordered, thick_box}
+use Rattle.arena_map.proofs.Boxes.{near_box, wide_ordered, thick_box}
 
 -- ---- lists
 
@@ -40,13 +41,6 @@ or-false : (a b : Bool) → a ≡ false → b ≡ false → (a || (b || false)) 
 or-false true b h k = cc
 or-false false true h k = cc
 or-false false false h k = refl
-
-pub lt-from : (m n : ℕ) → nat_lt m n ≡ true → m < n
-lt-from m n h = grind (arith, nat_tests)
-
-pub not-true : (b : Bool) → not b ≡ true → b ≡ false
-not-true true h = cc
-not-true false h = refl
 
 -- ---- what breaks no rule keeps each
 
@@ -124,7 +118,7 @@ begun-is_map lo hi low high none = by (is_wide lo hi) refl none
 
 -- a lift that keeps the rule on boxes has an inside
 pub thick-lift : (arena : Bounds) (line : MapLine) → keeps_box arena line ≡ true → has_thick_lift line ≡ true
-thick-lift arena (Lift lo hi rise speed) keeps = (both_parts (is_thick lo hi) (contains arena (bounds lo hi)) keeps).0
+thick-lift arena (Lift lo hi rise speed) keeps = (and_parts (is_thick lo hi) (contains arena (bounds lo hi)) keeps).0
 thick-lift arena line keeps = refl
 
 -- ---- blocks and spawns
@@ -132,7 +126,7 @@ thick-lift arena line keeps = refl
 -- a block that breaks no rule is one
 pub block-is_block : (arena : Bounds) (lo hi : Vec3) → IsNear 1048576 lo → IsNear 1048576 hi → keeps_box arena (Block lo hi) ≡ true → IsBlock arena (bounds lo hi)
 block-is_block arena lo hi low high h =
-    let parts = both_parts (is_thick lo hi) (contains arena (bounds lo hi)) h in
+    let parts = and_parts (is_thick lo hi) (contains arena (bounds lo hi)) h in
     record { is_box = thick_box lo hi low high parts.0; thick = parts.0; inside = parts.1 }
 
 -- shafts that a block doesn't meet either
@@ -150,7 +144,7 @@ with_block-is_map map lo hi is near keeps = record {
   hi = is.hi;
   wide = is.wide;
   blocks = all-push (IsBlock map.bounds) map.blocks (bounds lo hi) is.blocks (block-is_block map.bounds lo hi near.0 near.1 keeps.inside);
-  few_blocks = omega (arith, lt-from _ _ keeps.count, length-append map.blocks (bounds lo hi ∷ []));
+  few_blocks = omega (arith, ltb-true _ _ keeps.count, length-append map.blocks (bounds lo hi ∷ []));
   spawns = is.spawns;
   few_spawns = is.few_spawns;
   things = is.things;
@@ -175,7 +169,7 @@ with_spawn-is_map map at is near keeps = record {
   blocks = is.blocks;
   few_blocks = is.few_blocks;
   spawns = all-push (IsSpawn map.bounds) map.spawns at is.spawns (record { near = near; inside = keeps.stand });
-  few_spawns = omega (arith, lt-from _ _ keeps.count, length-append map.spawns (at ∷ []));
+  few_spawns = omega (arith, ltb-true _ _ keeps.count, length-append map.spawns (at ∷ []));
   things = is.things;
   few_items = is.few_items;
   few_teleporters = is.few_teleporters;
@@ -207,19 +201,19 @@ few-more p most lines line few room = by (p line) refl (count-push p lines line)
     by false e count = omega (arith, count, few)
 
 pub item-room : (map : MapView) (line : MapLine) → keeps_count map line ≡ true → is_item_line line ≡ true → count_by is_item_line map.things < MOST_ITEMS
-item-room map (Item at kind delay) room is = lt-from _ _ room
+item-room map (Item at kind delay) room is = ltb-true _ _ room
 item-room map line room is = cc
 
 pub teleporter-room : (map : MapView) (line : MapLine) → keeps_count map line ≡ true → is_teleport_line line ≡ true → count_by is_teleport_line map.things < MOST_BOXES
-teleporter-room map (Teleport lo hi dest) room is = lt-from _ _ room
+teleporter-room map (Teleport lo hi dest) room is = ltb-true _ _ room
 teleporter-room map line room is = cc
 
 pub goal-room : (map : MapView) (line : MapLine) → keeps_count map line ≡ true → is_goal_line line ≡ true → count_by is_goal_line map.things < MOST_BOXES
-goal-room map (Goal lo hi) room is = lt-from _ _ room
+goal-room map (Goal lo hi) room is = ltb-true _ _ room
 goal-room map line room is = cc
 
 pub lift-room : (map : MapView) (line : MapLine) → keeps_count map line ≡ true → is_lift_line line ≡ true → count_by is_lift_line map.things < MOST_BOXES
-lift-room map (Lift lo hi rise speed) room is = lt-from _ _ room
+lift-room map (Lift lo hi rise speed) room is = ltb-true _ _ room
 lift-room map line room is = cc
 
 -- the shafts of a map
@@ -241,7 +235,7 @@ shafts-same blocks shafts has = subst (HasShafts blocks) (sym (append-nil shafts
 pub shafts-more : (map : MapView) (line : MapLine) → HasShafts map.blocks (shafts_of map) → keeps_shafts map line ≡ true
     → HasShafts map.blocks (shafts_of map ++ filter_map shaft_of (line ∷ []))
 shafts-more map (Lift lo hi rise speed) has keeps =
-    let parts = both_parts (not (is_blocked (shaft lo hi rise) map.blocks)) (not (meets_shaft (shafts_of map) (shaft lo hi rise))) keeps in
+    let parts = and_parts (not (is_blocked (shaft lo hi rise) map.blocks)) (not (meets_shaft (shafts_of map) (shaft lo hi rise))) keeps in
     shafts-push map.blocks (shafts_of map) (shaft lo hi rise) has (not-true _ parts.0) (not-true _ parts.1)
 shafts-more map (Arena lo hi) has keeps = shafts-same map.blocks (shafts_of map) has
 shafts-more map (Block lo hi) has keeps = shafts-same map.blocks (shafts_of map) has
@@ -288,7 +282,7 @@ with_thing-is_map map line is thing limits keeps =
 -- ---- settings
 
 -- where it is no more than 0 it is 0
-none_yet : (n : ℕ) → (n == 0) ≡ true → n ≡ 0
+pub none_yet : (n : ℕ) → (n == 0) ≡ true → n ≡ 0
 none_yet n h = grind (arith, nat_tests)
 
 pub first-line : (n : ℕ) → (n == 0) ≡ true → n + 1 ≤ 1

@@ -12,6 +12,7 @@ use Rattle.arena_map.specs.Places.{is_thick, raised}
 use Rattle.arena_map.specs.Things.{lift_data}
 use Rattle.arena_map.specs.Maps.{MapView, IsThingInside, IsLift, IsMap}
 use Rattle.std.proofs.lemmas.Option.{same_Some}
+use Rattle.std.proofs.lemmas.Bool.{and_parts}
 use Rattle.arena_geo.specs.Vectors.{plus}
 use Rattle.arena_geo.proofs.Containment.{all_three}
 use Rattle.entity_recs.specs.declared.kind.Kind.{Kind}
@@ -20,7 +21,7 @@ use Rattle.entity_recs.specs.Records.{IsAboveZero, IsMapBox, IsShapeOf}
 use Rattle.arena_map.specs.Things.{record_of}
 use Rattle.arena_map.specs.Validity.{IsSameLift}
 use Rattle.arena_map.specs.Laws.{IsLiftInside, LiftsStayInside}
-use Rattle.arena_map.proofs.Boxes.{both_parts, three_parts, thick_ordered}
+use Rattle.arena_map.proofs.Boxes.{three_parts, thick_ordered}
 use Rattle.arena_map.proofs.ThingRecords.{sized}
 use Rattle.arena_map.proofs.Opening.{found-in, lift-of-line}
 
@@ -30,7 +31,7 @@ record IsWithin (lo hi from to : ℤ) : Type 0 where
   high : to ≤ℤ hi
 
 within : (lo hi from to : ℤ) → contains_on lo hi from to ≡ true → IsWithin lo hi from to
-within lo hi from to h = let parts = both_parts (int_le lo from) (int_le to hi) h in record { low = grind (arith, ints); high = grind (arith, ints) }
+within lo hi from to h = let parts = and_parts (int_le lo from) (int_le to hi) h in record { low = grind (arith, ints); high = grind (arith, ints) }
 
 -- what is contained on z
 on_z : (a b : Bounds) → contains a b ≡ true → IsWithin a.lo.z a.hi.z b.lo.z b.hi.z
@@ -47,7 +48,7 @@ high-near low high from to rise near_low near_high is order = let a = is.low in 
 pub lift-is_lift : (map : MapView) (line : MapLine) → IsMap map → IsThingInside map.bounds line → IfSome (lift_data line) IsLift
 lift-is_lift map (Lift lo hi rise speed) is inside =
     let limits = inside.limits in
-    let order = thick_ordered lo hi (both_parts (is_thick lo hi) (contains map.bounds (bounds lo hi)) inside.inside).0 in
+    let order = thick_ordered lo hi (and_parts (is_thick lo hi) (contains map.bounds (bounds lo hi)) inside.inside).0 in
     let way = on_z map.bounds (raised lo hi rise) inside.travel in
     record {
       low = limits.0.z;
@@ -119,7 +120,7 @@ lift-inside : (map : MapView) (id : ℕ) (lo hi : Vec3) (rise speed : ℤ) (r : 
     → IsSameLift (record { low = lo.z; rise = rise; speed = speed }) (record_of id (Lift lo hi rise speed)) r → IsLiftInside map r
 lift-inside map id lo hi rise speed r is inside same =
     let limits = inside.limits in
-    let parts = both_parts (is_thick lo hi) (contains map.bounds (bounds lo hi)) inside.inside in
+    let parts = and_parts (is_thick lo hi) (contains map.bounds (bounds lo hi)) inside.inside in
     let order = thick_ordered lo hi parts.0 in
     let at = inside-of map.bounds (bounds lo hi) parts.1 in
     let way = inside-of map.bounds (raised lo hi rise) inside.travel in

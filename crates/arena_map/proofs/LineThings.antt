@@ -1,11 +1,11 @@
 -- What each line of a map gives.
-use Rattle.std.proofs.Common.{◌≡◌, ◌⊎◌, ℕ, zero, suc, ◌+◌, ◌-◌, ◌<◌, ◌≤◌, true, false, cond, nat_le, List, [], ◌∷◌, length, Some, None, option_and_then, slice_get, inl, inr, ℤ, pos, ◌+ℤ◌, refl, ap, ◌∙◌, arith}
-use Rattle.std.proofs.lemmas.Int.{ints}
+use Rattle.std.proofs.Common.{◌≡◌, ◌⊎◌, ℕ, zero, suc, ◌+◌, ◌-◌, ◌<◌, ◌≤◌, true, false, cond, nat_le, List, [], ◌∷◌, length, Some, None, option_and_then, slice_get, inl, inr, ℤ, refl, ap, ◌∙◌, arith}
 use Rattle.std.proofs.lemmas.Bool.Decides.{nat_tests}
 use Rattle.std.proofs.lemmas.Option.{none-some, slice_get_past}
 use Rattle.arena_geo.specs.declared.vec3.Vec3.{Vec3}
-use Rattle.arena_geo.specs.Vectors.{vector, plus, minus, zero_vector}
+use Rattle.arena_geo.specs.Vectors.{plus, minus, zero_vector}
 use Rattle.arena_geo.specs.Bounds.{bounds}
+use Rattle.arena_geo.proofs.Vectors.{plus-zero_vector}
 use Rattle.entity_recs.specs.declared.kind.Kind.{Kind}
 use Rattle.entity_recs.specs.declared.kind.Kind.TheVariants as kinds
 use Rattle.arena_map.specs.declared.map_line.MapLine.{MapLine}
@@ -17,20 +17,13 @@ use Rattle.arena_map.proofs.ThingRecords.{corner}
 
 -- ---- the records
 
-still : (n : ℤ) → n +ℤ pos 0 ≡ n
-still n = omega (arith, ints)
-
--- a place and no way from there give the place
-stays : (at : Vec3) → plus at zero_vector ≡ at
-stays at = λ i. vector (still at.x i) (still at.y i) (still at.z i)
-
 item-between : (id delay : ℕ) (kind : Kind) (at : Vec3) → IsThingBetween id kind at (item_end at) (record_of id (Item at kind delay))
 item-between id delay kind at = record {
   id_is = refl;
   kind_is = refl;
   origin = refl;
   mins = refl;
-  body = ap (λ lo. bounds lo (item_end at)) (stays at);
+  body = ap (λ lo. bounds lo (item_end at)) (plus-zero_vector at);
   vel = refl;
   flags = refl;
   ammo = refl;
@@ -41,7 +34,7 @@ item-between id delay kind at = record {
 }
 
 box-body : (lo hi : Vec3) → bounds (plus lo zero_vector) (plus lo (minus hi lo)) ≡ bounds lo hi
-box-body lo hi = ap (λ low. bounds low (plus lo (minus hi lo))) (stays lo) ∙ ap (bounds lo) (corner lo hi)
+box-body lo hi = ap (λ low. bounds low (plus lo (minus hi lo))) (plus-zero_vector lo) ∙ ap (bounds lo) (corner lo hi)
 
 teleport-between : (id : ℕ) (lo hi dest : Vec3) → IsThingBetween id kinds.Teleporter lo hi (record_of id (Teleport lo hi dest))
 teleport-between id lo hi dest = record {

@@ -1,9 +1,10 @@
 -- A text that is read as a line is the text of that line, has the form of its word, and its numbers are within their limits.
-use Rattle.std.proofs.Common.{◌≡◌, ℕ, zero, suc, ◌≤◌, nat_le, Bool, true, false, ◌&&◌, List, [], ◌∷◌, ◌++◌, Option, Some, None, Result, Ok, Err, ok_or, unwrap_or, cond, codes, bytes_eq, refl, sym, ap, ◌∙◌, subst, arith, ℤ, pos, ◌≤ℤ◌, unsigned_abs, decimal, append_assoc, append-nil}
+use Rattle.std.proofs.Common.{◌≡◌, ℕ, zero, suc, ◌≤◌, nat_le, Bool, true, false, ◌&&◌, List, [], ◌∷◌, ◌++◌, Option, Some, None, Result, Ok, Err, ok_or, cond, codes, bytes_eq, refl, sym, ap, ◌∙◌, subst, arith, ℤ, pos, ◌≤ℤ◌, unsigned_abs, decimal, append_assoc, append-nil}
 use Rattle.std.specs.Fmt.{signed_decimal}
 use Rattle.std.proofs.lemmas.Slice.Eq.{bytes_eq-Decides}
 use Rattle.std.proofs.lemmas.Bool.Decides.{nat_tests}
 use Rattle.std.proofs.lemmas.Int.{ints}
+use Rattle.std.proofs.lemmas.Option.{same_Some}
 use Rattle.arena_geo.specs.declared.vec3.Vec3.{Vec3}
 use Rattle.arena_geo.specs.Vectors.{IsNear}
 use Rattle.entity_recs.specs.declared.kind.Kind.{Kind}
@@ -36,9 +37,6 @@ record Binds {A B : Type 0} (o : Option A) (f : A → Option B) (y : B) : Type 0
 binds : {A B : Type 0} (o : Option A) (f : A → Option B) (y : B) → o >>= f ≡ Some y → Binds o f y
 binds None f y h = cc
 binds (Some x) f y h = record { at = x; is = refl; gives = h }
-
-same : {A : Type 0} (a b : A) → Some a ≡ Some b → a ≡ b
-same a b e = ap (λ o. unwrap_or o a) e
 
 -- these fields were read, written so, and this is after them
 pub record IsRead (fields : List MapField) (text rest after : List ℕ) : Type 0 where
@@ -75,7 +73,7 @@ coordinate-read rest c h =
     let read = field-read Number rest field.at field.is (number-first field.at (integer-form 1048576 z.at field.at.0 z.is)) in
     let Text : List ℕ → Type 0 = λ text. IsRead (numbers 1) (field_text text) rest field.at.1 in
     let P : ℤ × List ℕ → Type 0 = ReadsCoordinate rest in
-    subst P (same (z.at, field.at.1) c z.gives) (spelled.1, subst Text spelled.0 read)
+    subst P (same_Some (z.at, field.at.1) c z.gives) (spelled.1, subst Text spelled.0 read)
 
 -- a point was read
 abbrev ReadsPoint : List ℕ → Vec3 × List ℕ → Type 0
@@ -90,7 +88,7 @@ point-read rest p h =
     let read_y = coordinate-read x.at.1 y.at y.is in
     let read_z = coordinate-read y.at.1 z.at z.is in
     let P : Vec3 × List ℕ → Type 0 = ReadsPoint rest in
-    subst P (same _ p z.gives) (
+    subst P (same_Some _ p z.gives) (
       record { x = read_x.0; y = read_y.0; z = read_z.0 },
       read-then (numbers 2) (numbers 1) _ _ rest y.at.1 z.at.1 (read-then (numbers 1) (numbers 1) _ _ rest x.at.1 y.at.1 read_x.1 read_y.1) read_z.1,
     )
@@ -101,7 +99,7 @@ ReadsCount limit rest c = (1 ≤ c.0) × (c.0 ≤ limit) × IsRead (numbers 1) (
 
 positive : (n c : ℕ) → above_zero n ≡ Some c → (1 ≤ c) × (n ≡ c)
 positive zero c h = cc
-positive (suc n) c h = let e = same (suc n) c h in (omega (arith, e), e)
+positive (suc n) c h = let e = same_Some (suc n) c h in (omega (arith, e), e)
 
 count-read : (limit : ℕ) (rest : List ℕ) (c : ℕ × List ℕ) → limit ≤ 1048576 → count_at limit rest ≡ Some c → ReadsCount limit rest c
 count-read limit rest c low h =
@@ -113,7 +111,7 @@ count-read limit rest c low h =
     let read = field-read Number rest field.at field.is (number-first field.at (natural-integer limit n.at field.at.0 n.is (omega (arith, low)))) in
     let Text : List ℕ → Type 0 = λ text. IsRead (numbers 1) (field_text text) rest field.at.1 in
     let P : ℕ × List ℕ → Type 0 = ReadsCount limit rest in
-    subst P (same (count.at, field.at.1) c count.gives)
+    subst P (same_Some (count.at, field.at.1) c count.gives)
     (some.0, omega (arith, spelled.1, some.1), subst Text (spelled.0 ∙ ap decimal some.1) read)
 
 -- a kind was read
@@ -127,10 +125,10 @@ kind-spelled text kind h = by (bytes_eq text (codes "ammo")) (bytes_eq text (cod
         → (text ≡ kind_text kind) × (is_item kind ≡ true)
     by true g is not e =
         let P : Kind → Type 0 = λ k. (text ≡ kind_text k) × (is_item k ≡ true) in
-        subst P (same kinds.Ammo kind e) ((bytes_eq-Decides text (codes "ammo")).0 is, refl)
+        subst P (same_Some kinds.Ammo kind e) ((bytes_eq-Decides text (codes "ammo")).0 is, refl)
     by false true is not e =
         let P : Kind → Type 0 = λ k. (text ≡ kind_text k) × (is_item k ≡ true) in
-        subst P (same kinds.Gem kind e) ((bytes_eq-Decides text (codes "gem")).0 not, refl)
+        subst P (same_Some kinds.Gem kind e) ((bytes_eq-Decides text (codes "gem")).0 not, refl)
     by false false is not e = cc
 
 kind-first : (parts : List ℕ × List ℕ) (kind : Kind) → item_kind parts.0 ≡ Some kind → (more : List ℕ → Bool) → is_field_first ItemKind (Some parts) more ≡ more parts.1
@@ -144,7 +142,7 @@ kind-read rest k h =
     let read = field-read ItemKind rest field.at field.is (kind-first field.at kind.at kind.is) in
     let Text : List ℕ → Type 0 = λ text. IsRead (ItemKind ∷ []) (field_text text) rest field.at.1 in
     let P : Kind × List ℕ → Type 0 = ReadsKind rest in
-    subst P (same (kind.at, field.at.1) k kind.gives) (spelled.1, subst Text spelled.0 read)
+    subst P (same_Some (kind.at, field.at.1) k kind.gives) (spelled.1, subst Text spelled.0 read)
 
 -- two corners were read
 abbrev ReadsCorners : List ℕ → Vec3 × Vec3 × List ℕ → Type 0
@@ -157,7 +155,7 @@ corners-read rest c h =
     let read_lo = point-read rest lo.at lo.is in
     let read_hi = point-read lo.at.1 hi.at hi.is in
     let P : Vec3 × Vec3 × List ℕ → Type 0 = ReadsCorners rest in
-    subst P (same (lo.at.0, hi.at.0, hi.at.1) c hi.gives)
+    subst P (same_Some (lo.at.0, hi.at.0, hi.at.1) c hi.gives)
     (read_lo.0, read_hi.0, read-then (numbers 3) (numbers 3) _ _ rest lo.at.1 hi.at.1 read_lo.1 read_hi.1)
 
 -- ---- the lines
@@ -173,7 +171,7 @@ alone-read : (word : MapWord) (line l : MapLine) (rest after : List ℕ) → wor
     → alone line after ≡ Some l → ReadsLine word rest l
 alone-read word line l rest [] is limits read h =
     let P : MapLine → Type 0 = ReadsLine word rest in
-    subst P (same line l h) (record { word_is = is; limits = limits; read = read })
+    subst P (same_Some line l h) (record { word_is = is; limits = limits; read = read })
 alone-read word line l rest (b ∷ after) is limits read h = cc
 
 arena-read : (rest : List ℕ) (l : MapLine) → arena_in rest ≡ Some l → ReadsLine words.Arena rest l
@@ -229,7 +227,7 @@ reached : (least n c : ℕ) → at_least least n ≡ Some c → (least ≤ n) ×
 reached least n c h = by (nat_le least n) refl h
   where
     by : (b : Bool) → nat_le least n ≡ b → cond b (Some n) None ≡ Some c → (least ≤ n) × (n ≡ c)
-    by true is e = (grind (arith, nat_tests), same n c e)
+    by true is e = (grind (arith, nat_tests), same_Some n c e)
     by false is e = cc
 
 between-read : (least most : ℕ) (rest : List ℕ) (c : ℕ × List ℕ) → most ≤ 1048576 → number_between least most rest ≡ Some c → ReadsBetween least most rest c
@@ -242,7 +240,7 @@ between-read least most rest c small h =
     let read = field-read Number rest field.at field.is (number-first field.at (natural-integer most n.at field.at.0 n.is (omega (arith, small)))) in
     let Text : List ℕ → Type 0 = λ text. IsRead (numbers 1) (field_text text) rest field.at.1 in
     let P : ℕ × List ℕ → Type 0 = ReadsBetween least most rest in
-    subst P (same (number.at, field.at.1) c number.gives)
+    subst P (same_Some (number.at, field.at.1) c number.gives)
     (omega (arith, low.0, low.1), omega (arith, spelled.1, low.1), subst Text (spelled.0 ∙ ap decimal low.1) read)
 
 depth-read : (rest : List ℕ) (l : MapLine) → depth_in rest ≡ Some l → ReadsLine words.Depth rest l
@@ -303,7 +301,7 @@ word-choice : (text : List ℕ) (w v : MapWord) (more : Option MapWord) → (mor
 word-choice text w v more others h = by (bytes_eq text (word_text w)) refl h
   where
     by : (b : Bool) → bytes_eq text (word_text w) ≡ b → cond b (Some w) more ≡ Some v → text ≡ word_text v
-    by true is e = (bytes_eq-Decides text (word_text w)).0 is ∙ ap word_text (same w v e)
+    by true is e = (bytes_eq-Decides text (word_text w)).0 is ∙ ap word_text (same_Some w v e)
     by false is e = others e
 
 no-word : (text : List ℕ) (v : MapWord) → None ≡ Some v → text ≡ word_text v

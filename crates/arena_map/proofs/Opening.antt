@@ -4,6 +4,7 @@ use Rattle.std.specs.List.{find, AllByRecursion}
 use Rattle.std.proofs.lemmas.Bool.Decides.{nat_tests}
 use Rattle.std.proofs.lemmas.Int.{ints}
 use Rattle.std.proofs.lemmas.Option.{none-some, same_Some}
+use Rattle.std.proofs.lemmas.Bool.{eqb-true}
 use Rattle.arena_geo.specs.Bounds.{Bounds}
 use Rattle.entity_recs.specs.declared.kind.Kind.{Kind}
 use Rattle.entity_recs.specs.declared.kind.Kind.TheVariants as kinds
@@ -21,9 +22,6 @@ use Rattle.arena_map.proofs.Kept.{each-of, few_things}
 use Rattle.arena_map.proofs.ThingRecords.{own-id, thing-is_record}
 
 -- ---- the thing with an id
-
-eqb-from : (m n : ℕ) → (m == n) ≡ true → m ≡ n
-eqb-from m n h = grind (arith, nat_tests)
 
 -- the thing that was found by its id: its line, the place of it, and its record
 pub record IsFound (arena : Bounds) (first : ℕ) (things : List MapLine) (id : ℕ) (thing : Rec) : Type 0 where
@@ -69,7 +67,7 @@ found arena first (line ∷ things) id thing each h =
     by : (b : Bool) → ((record_of first line).id == id) ≡ b → cond b (Some (record_of first line)) (find (λ t. t.id == id) (records_from (first + 1) things)) ≡ Some thing
         → (find (λ t. t.id == id) (records_from (first + 1) things) ≡ Some thing → IsFound arena (first + 1) things id thing) → IsFound arena first (line ∷ things) id thing
     by true e g later =
-        found-here arena first line things id thing each.0 (sym (own-id first line each.0.thing) ∙ eqb-from _ _ e) (same_Some (record_of first line) thing g)
+        found-here arena first line things id thing each.0 (sym (own-id first line each.0.thing) ∙ eqb-true _ _ e) (same_Some (record_of first line) thing g)
     by false e g later = found-later arena first line things id thing (later g)
 
 -- the thing of a map

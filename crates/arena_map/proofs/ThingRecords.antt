@@ -5,6 +5,7 @@ use Rattle.std.specs.Prelude.{map as map_list, nat_eq}
 use Rattle.std.proofs.lemmas.Bool.Decides.{nat_tests}
 use Rattle.std.proofs.lemmas.Int.{ints}
 use Rattle.std.proofs.lemmas.List.Elements.{All-from_recursion}
+use Rattle.std.proofs.lemmas.Bool.{and_parts}
 use Rattle.arena_geo.specs.declared.vec3.Vec3.{Vec3}
 use Rattle.arena_geo.specs.Vectors.{IsNear, plus, minus, vector, zero_vector}
 use Rattle.arena_geo.specs.Bounds.{Bounds, bounds}
@@ -21,7 +22,7 @@ use Rattle.arena_map.specs.MapLines.{is_thing_line}
 use Rattle.arena_map.specs.Places.{is_thick}
 use Rattle.arena_map.specs.Things.{record_of, records_from}
 use Rattle.arena_map.specs.Maps.{MapView, entities_of, IsThingInside, IsMap}
-use Rattle.arena_map.proofs.Boxes.{both_parts, three_parts}
+use Rattle.arena_map.proofs.Boxes.{three_parts}
 use Rattle.arena_map.proofs.Kept.{each-of, few_things}
 
 above : (lo hi : ℤ) → int_lt lo hi ≡ true → pos 0 <ℤ (hi -ℤ lo)
@@ -71,7 +72,7 @@ item-is_record id kinds.Gem at own item near = record {
 item-is_record id kind at own item near = cc
 
 thick-of : (arena : Bounds) (lo hi : Vec3) → (is_thick lo hi && contains arena (bounds lo hi)) ≡ true → is_thick lo hi ≡ true
-thick-of arena lo hi h = (both_parts (is_thick lo hi) (contains arena (bounds lo hi)) h).0
+thick-of arena lo hi h = (and_parts (is_thick lo hi) (contains arena (bounds lo hi)) h).0
 
 -- the record of a thing that is placed by the rules
 pub thing-is_record : (arena : Bounds) (id : ℕ) (line : MapLine) → IsMapId id → IsThingInside arena line → IsRecord (record_of id line)

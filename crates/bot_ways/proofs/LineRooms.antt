@@ -1,5 +1,5 @@
 -- The lines of a map have at most so many bytes.
-use Rattle.std.proofs.Common.{◌≡◌, ℕ, suc, ◌+◌, ◌*◌, ◌^◌, ◌<◌, ◌≤◌, ◌≤ℤ◌, ◌==◌, ℤ, pos, negsuc, unsigned_abs, Bool, true, false, cond, List, [], ◌∷◌, ◌++◌, length, map, count_by, decimal, refl, ap, arith, length-append}
+use Rattle.std.proofs.Common.{◌≡◌, ℕ, ◌+◌, ◌*◌, ◌^◌, ◌<◌, ◌≤◌, ◌≤ℤ◌, ◌==◌, ℤ, pos, negsuc, Bool, true, false, cond, List, [], ◌∷◌, ◌++◌, length, map, count_by, decimal, refl, ap, arith, length-append}
 use Rattle.std.specs.List.{AllByRecursion}
 use Rattle.std.specs.Fmt.{signed_decimal}
 use Rattle.std.proofs.lemmas.Fmt.{length-decimal-le}
@@ -7,11 +7,8 @@ use Rattle.std.proofs.lemmas.Int.{ints}
 use Rattle.std.proofs.lemmas.List.Elements.{recursion_from_All}
 use Rattle.edge_io.specs.Fields.{field_text}
 use Rattle.arena_geo.specs.declared.vec3.Vec3.{Vec3}
-use Rattle.arena_geo.specs.Vectors.{IsNear}
 use Rattle.arena_geo.specs.Bounds.{Bounds}
 use Rattle.entity_recs.specs.declared.kind.Kind.{Kind}
-use Rattle.entity_recs.specs.declared.kind.Kind.TheVariants as kinds
-use Rattle.entity_recs.specs.Kinds.{is_item}
 use Rattle.arena_map.specs.declared.limits.TheConstants.{DEFAULT_DEPTH}
 use Rattle.arena_map.specs.declared.map_line.MapLine.{MapLine}
 use Rattle.arena_map.specs.declared.map_line.MapLine.TheVariants.{Arena, Block, Spawn, Item, Teleport, Goal, Lift, Depth, Shots}
@@ -23,6 +20,7 @@ use Rattle.arena_map.specs.Words.{word_text, kind_text}
 use Rattle.arena_map.proofs.Counting.{count-cons}
 use Rattle.demo_lines.specs.InTurn.{AreAccepted}
 use Rattle.demo_lines.specs.Spelling.{shots_lines_of}
+use Rattle.demo_lines.proofs.Written.{point-long, corners-long, kind-long}
 use Rattle.bot_ways.specs.PlanTexts.{block_of, depth_lines_of, added_lines, lines_text, depth_text, shots_text, blocks_text, spawns_text, things_text, map_text, arena_text}
 use Rattle.bot_ways.specs.Rooms.{room_of_things, room_of_map}
 use Rattle.bot_ways.proofs.Gathering.{text-both}
@@ -30,29 +28,10 @@ use Rattle.bot_ways.proofs.MapsBefore.{lines-accepted}
 
 -- ---- a line
 
-number-long : (z : ℤ) → unsigned_abs z ≤ 1048576 → length (signed_decimal z) ≤ 8
-number-long (pos n) near = omega (arith, length-decimal-le 7 n (omega arith) (omega arith) (omega arith))
-number-long (negsuc n) near = omega (arith, length-decimal-le 7 (suc n) (omega arith) (omega arith) (omega arith))
-
 -- a number from 1 on has no sign
 positive-long : (digits most : ℕ) (z : ℤ) → pos 1 ≤ℤ z → z ≤ℤ pos most → 0 < digits → most ≤ 1048576 → most < 10 ^ digits → length (signed_decimal z) ≤ digits
 positive-long digits most (pos n) low high some near few = length-decimal-le digits n some (omega (arith, ints, high, few)) (omega (arith, ints, high, near))
 positive-long digits most (negsuc n) low high some near few = absurd (omega (arith, ints, low))
-
-point-long : (p : Vec3) → IsNear 1048576 p → length (point_text p) ≤ 27
-point-long p near =
-    let x = field_text (signed_decimal p.x) in
-    let y = field_text (signed_decimal p.y) in
-    let z = field_text (signed_decimal p.z) in
-    omega (arith, length-append (x ++ y) z, length-append x y, number-long p.x near.x, number-long p.y near.y, number-long p.z near.z)
-
-corners-long : (lo hi : Vec3) → IsNear 1048576 lo → IsNear 1048576 hi → length (point_text lo ++ point_text hi) ≤ 54
-corners-long lo hi near_lo near_hi = omega (arith, length-append (point_text lo) (point_text hi), point-long lo near_lo, point-long hi near_hi)
-
-kind-long : (kind : Kind) → is_item kind ≡ true → length (kind_text kind) ≤ 4
-kind-long kinds.Ammo is = omega arith
-kind-long kinds.Gem is = omega arith
-kind-long kind is = cc
 
 -- room for a line and its line feed
 abbrev pub room_of_line : MapLine → ℕ
@@ -93,6 +72,13 @@ lift-long lo hi rise speed is =
       positive-long 4 2560 speed is.4 is.5 (omega arith) (omega arith) (omega arith),
     )
 
+-- ---- lines
+
+-- room for these lines
+abbrev pub room_of_lines : List MapLine → ℕ
+room_of_lines [] = 0
+room_of_lines (line ∷ lines) = room_of_line line + room_of_lines lines
+
 fields-long : (line : MapLine) → IsWithinLimits line → length (word_text (word_of line)) + length (fields_text line) + 1 ≤ room_of_line line
 fields-long (Arena lo hi) is = omega (arith, corners-long lo hi is.0 is.1)
 fields-long (Block lo hi) is = omega (arith, corners-long lo hi is.0 is.1)
@@ -104,13 +90,6 @@ fields-long (Goal lo hi) is = omega (arith, corners-long lo hi is.0 is.1)
 fields-long (Lift lo hi rise speed) is = omega (arith, lift-long lo hi rise speed is)
 fields-long (Depth depth) is = omega (arith, length-decimal-le 1 depth (omega arith) (omega (arith, is.most)) (omega (arith, is.most)))
 fields-long Shots is = omega arith
-
--- ---- lines
-
--- room for these lines
-abbrev pub room_of_lines : List MapLine → ℕ
-room_of_lines [] = 0
-room_of_lines (line ∷ lines) = room_of_line line + room_of_lines lines
 
 pub lines-long : (lines : List MapLine) → AllByRecursion IsWithinLimits lines → length (lines_text lines) ≤ room_of_lines lines
 lines-long [] each = omega arith

@@ -1,16 +1,13 @@
 -- A map that keeps the rules takes its lines in the order of settings, blocks, spawns and things, each after those before it.
-use Rattle.std.proofs.Common.{◌≡◌, ℕ, ◌≤◌, ◌==◌, ◌≤ℤ◌, ℤ, unsigned_abs, Bool, true, false, cond, ◌||◌, List, [], ◌∷◌, ◌++◌, length, fold, map, filter_map, count_by, get_or, All, AllPairs, refl, sym, ap, ◌∙◌, subst, arith, append_assoc, append-nil, length-append}
+use Rattle.std.proofs.Common.{◌≡◌, ℕ, ◌≤◌, ◌==◌, Bool, true, false, cond, List, [], ◌∷◌, ◌++◌, length, fold, map, filter_map, count_by, get_or, All, AllPairs, refl, sym, ap, ◌∙◌, subst, arith, append_assoc, append-nil, length-append}
 use Rattle.std.specs.List.{AllByRecursion, list_any}
-use Rattle.std.proofs.lemmas.Bool.Decides.{nat_tests}
-use Rattle.std.proofs.lemmas.Int.{ints}
 use Rattle.std.proofs.Math.ListN.{get_or-append}
 use Rattle.std.proofs.lemmas.List.Folds.{list_any-append}
 use Rattle.std.proofs.lemmas.List.Elements.{recursion_from_All, filter_map-append}
+use Rattle.std.proofs.lemmas.Bool.{eqb-true, or_parts}
 use Rattle.arena_geo.specs.declared.vec3.Vec3.{Vec3}
 use Rattle.arena_geo.specs.Bounds.{Bounds}
-use Rattle.arena_geo.specs.Vectors.{IsNear}
-use Rattle.arena_geo.specs.Boxes.{contains_on, overlaps, is_blocked}
-use Rattle.arena_geo.proofs.Containment.{three_pass}
+use Rattle.arena_geo.specs.Boxes.{overlaps, is_blocked}
 use Rattle.arena_map.specs.declared.limits.TheConstants.{DEFAULT_DEPTH, MOST_BLOCKS, MOST_BOXES, MOST_ITEMS, MOST_SPAWNS}
 use Rattle.arena_map.specs.declared.map_line.MapLine.{MapLine}
 use Rattle.arena_map.specs.declared.map_line.MapLine.TheVariants.{Arena, Block, Spawn, Item, Teleport, Goal, Lift, Depth, Shots}
@@ -22,6 +19,7 @@ use Rattle.arena_map.proofs.Keeping.{count-push}
 use Rattle.arena_map.proofs.Breaking.{leaves-unbroken}
 use Rattle.demo_lines.specs.Spelling.{shots_lines_of}
 use Rattle.demo_lines.specs.InTurn.{AreAccepted, map_in_turn}
+use Rattle.demo_lines.proofs.RecordingsRead.{block_near, set, filled}
 use Rattle.bot_ways.specs.PlanTexts.{block_of, depth_lines_of, added_lines, as_written}
 
 -- ---- fronts of lists
@@ -48,13 +46,9 @@ few-front xs x most few = let more = length-append xs (x ∷ []) in omega (arith
 count-front : (p : MapLine → Bool) (xs : List MapLine) (x : MapLine) (most : ℕ) → count_by p (xs ++ x ∷ []) ≤ most → count_by p xs ≤ most
 count-front p xs x most few = let more = count-push p xs x in omega (arith, more, few)
 
-neither : (a b : Bool) → (a || b) ≡ false → a ≡ false
-neither false b h = refl
-neither true b h = cc
-
 clear-front : (own : Bounds) (blocks : List Bounds) (b : Bounds) → is_blocked own (blocks ++ b ∷ []) ≡ false → is_blocked own blocks ≡ false
 clear-front own blocks b clear =
-    neither (list_any (overlaps own) blocks) (list_any (overlaps own) (b ∷ [])) (sym (list_any-append (overlaps own) blocks (b ∷ [])) ∙ clear)
+    (or_parts (list_any (overlaps own) blocks) (list_any (overlaps own) (b ∷ [])) (sym (list_any-append (overlaps own) blocks (b ∷ [])) ∙ clear)).0
 
 -- ---- the map before a line
 
@@ -193,29 +187,7 @@ things-each arena (line ∷ lines) each =
     let is = thing-added line each.0.thing in
     (record { limits = each.0.limits; added = is.0; no_setting = is.1 }, things-each arena lines each.1)
 
--- ---- the numbers of a block
-
-near_on : (lo hi l h : ℤ) → unsigned_abs lo ≤ 1048576 → unsigned_abs hi ≤ 1048576 → l ≤ℤ h → contains_on lo hi l h ≡ true
-    → (unsigned_abs l ≤ 1048576) × (unsigned_abs h ≤ 1048576)
-near_on lo hi l h near_lo near_hi ordered inside =
-    let low : lo ≤ℤ l = grind (arith, ints) in
-    let high : h ≤ℤ hi = grind (arith, ints) in
-    (omega (arith, ints), omega (arith, ints))
-
--- a block inside an arena that is near is near
-pub block_near : (arena b : Bounds) → IsNear 1048576 arena.lo → IsNear 1048576 arena.hi → IsBlock arena b → IsNear 1048576 b.lo × IsNear 1048576 b.hi
-block_near arena b lo hi is =
-    let passed = three_pass _ _ _ is.inside in
-    let x = near_on arena.lo.x arena.hi.x b.lo.x b.hi.x lo.x hi.x is.is_box.ordered.x passed.x in
-    let y = near_on arena.lo.y arena.hi.y b.lo.y b.hi.y lo.y hi.y is.is_box.ordered.y passed.y in
-    let z = near_on arena.lo.z arena.hi.z b.lo.z b.hi.z lo.z hi.z is.is_box.ordered.z passed.z in
-    (record { x = x.0; y = y.0; z = z.0 }, record { x = x.1; y = y.1; z = z.1 })
-
 -- ---- the lines of a map
-
--- the map with these parts alone, and with its settings
-abbrev filled : MapView → List Bounds → List Vec3 → List MapLine → MapView
-filled m blocks spawns things = record m { blocks = blocks; spawns = spawns; things = things }
 
 blocks-added : (m : MapView) (done blocks : List Bounds) → fold with_line (filled m done [] []) (map block_of blocks) ≡ filled m (done ++ blocks) [] []
 blocks-added m done [] = ap (λ bs. filled m bs [] []) (sym (append-nil done))
@@ -256,11 +228,6 @@ accepted-both m (x ∷ xs) ys one other = (one.0, accepted-both (with_line m x) 
 
 -- ---- the settings
 
--- the map of an arena with these settings and nothing in it
-abbrev set : Bounds → ℕ → ℕ → Bool → ℕ → MapView
-set arena depth depth_lines shots shots_lines =
-    record (plain_map arena [] [] []) { depth = depth; depth_lines = depth_lines; shots = shots; shots_lines = shots_lines }
-
 -- with the depth alone, as it is written
 abbrev deep : MapView → MapView
 deep m = set m.bounds m.depth (as_written m).depth_lines false 0
@@ -276,15 +243,12 @@ leads-then a b c xs ys one then = record {
   reached = fold-both a xs ys ∙ ap (λ m. fold with_line m ys) one.reached ∙ then.reached;
 }
 
-same-number : (m n : ℕ) → (m == n) ≡ true → m ≡ n
-same-number m n h = grind (arith, nat_tests)
-
 depth-leads : (m : MapView) → IsMap m → LeadsTo (plain_map m.bounds [] [] []) (depth_lines_of m) (deep m)
 depth-leads m is = by (m.depth == DEFAULT_DEPTH) refl
   where
     by : (default : Bool) → (m.depth == DEFAULT_DEPTH) ≡ default
         → LeadsTo (plain_map m.bounds [] [] []) (cond default [] (Depth m.depth ∷ [])) (set m.bounds m.depth (cond default 0 1) false 0)
-    by true h = record { accepted = tt; reached = ap (λ d. set m.bounds d 0 false 0) (sym (same-number m.depth DEFAULT_DEPTH h)) }
+    by true h = record { accepted = tt; reached = ap (λ d. set m.bounds d 0 false 0) (sym (eqb-true m.depth DEFAULT_DEPTH h)) }
     by false h = record { accepted = (record { limits = is.depth; added = refl; rules = refl }, tt); reached = refl }
 
 shots-lead : (m : MapView) → IsMap m → LeadsTo (deep m) (shots_lines_of m) (filled (as_written m) [] [] [])
@@ -333,7 +297,7 @@ written-is_map m is = record {
     few false = omega arith
 
     default : (b : Bool) → (m.depth == DEFAULT_DEPTH) ≡ b → named b ≡ 0 → m.depth ≡ DEFAULT_DEPTH
-    default true h none = same-number m.depth DEFAULT_DEPTH h
+    default true h none = eqb-true m.depth DEFAULT_DEPTH h
     default false h none = absurd (omega (arith, none))
 
 -- ---- all lines

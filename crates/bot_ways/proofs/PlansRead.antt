@@ -3,17 +3,16 @@ use Rattle.std.proofs.Common.{◌≡◌, ℕ, ◌+◌, ◌*◌, ◌^◌, ◌<◌
 use Rattle.std.specs.List.{range_with_len, slice_split, onto_first, AllByRecursion}
 use Rattle.std.proofs.lemmas.List.Splits.{slice_split_at, slice_split-cons_no}
 use Rattle.std.proofs.lemmas.Bool.Decides.{nat_tests}
-use Rattle.std.proofs.lemmas.List.Elements.{All-cons, All-nil, All-from_recursion}
+use Rattle.std.proofs.lemmas.List.Elements.{All-cons, All-nil}
 use Rattle.std.proofs.lemmas.List.FromFn.{length-map-range_with_len}
-use Rattle.edge_io.specs.Lines.{AreBytes}
 use Rattle.edge_io.specs.WholeLines.{is_line_feed, whole_lines}
 use Rattle.arena_geo.specs.declared.vec3.Vec3.{Vec3}
 use Rattle.arena_map.specs.Maps.{MapView, IsMap, is_ready}
-use Rattle.packet_read.specs.declared.move_packet.MovePacket.{MovePacket}
 use Rattle.packet_read.specs.declared.packet.Packet.TheVariants.{Join, Step}
-use Rattle.packet_read.specs.Spelling.{spelling, MoveFits}
+use Rattle.packet_read.specs.Spelling.{MoveFits}
 use Rattle.packet_read.proofs.Again.{packet_again}
 use Rattle.packet_read.specs.declared.arrival.Arrival.{Arrival}
+use Rattle.packet_read.proofs.Fields.{move-bytes}
 use Rattle.demo_lines.specs.Spelling.{IsArrival, IsFrame}
 use Rattle.demo_lines.specs.declared.stage.Stage.{Stage}
 use Rattle.demo_lines.specs.declared.stage.Stage.TheVariants.{Start, Map, Playing, Ended, Refused}
@@ -38,11 +37,6 @@ use Rattle.bot_ways.proofs.WalkSteps.{first_step, some_walk, edge-far, walk-far,
 use Rattle.bot_ways.proofs.Wishes.{wish_at_most, wish_fits, part_x, part_y}
 
 -- ---- packets
-
-move-bytes : (m : MovePacket) → m.ms < 256 → m.buttons < 256 → AreBytes (spelling (Step m))
-move-bytes m ms buttons =
-    All-from_recursion (λ b. b < 256) (spelling (Step m))
-    (omega arith, (omega arith, (omega arith, (omega arith, (omega arith, (omega arith, (ms, (omega arith, (omega arith, (omega arith, (omega arith, (buttons, tt))))))))))))
 
 join-arrival : IsArrival (sent Join)
 join-arrival = record {

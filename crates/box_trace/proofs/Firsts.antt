@@ -1,10 +1,11 @@
 -- The first element that passes a test.
-use Rattle.std.proofs.Common.{◌≡◌, ℕ, ◌+◌, ◌<◌, ◌≤◌, Bool, true, false, cond, not, ◌&&◌, ◌||◌, eqb, nat_lt, List, [], ◌∷◌, ◌++◌, length, get_or, Option, Some, None, position, find, slice_get, refl, sym, ap, ◌∙◌, arith, length-append}
+use Rattle.std.proofs.Common.{◌≡◌, ℕ, ◌+◌, ◌<◌, ◌≤◌, Bool, false, cond, not, eqb, nat_lt, List, [], ◌∷◌, ◌++◌, length, get_or, Option, Some, None, position, find, slice_get, refl, sym, ap, ◌∙◌, arith, length-append}
 use Rattle.std.specs.List.{list_any, position_or_len}
 use Rattle.std.proofs.lemmas.Bool.Decides.{nat_tests}
 use Rattle.std.proofs.lemmas.Option.{slice_get_read}
 use Rattle.std.proofs.lemmas.List.Sums.{fails_before_first}
 use Rattle.std.proofs.lemmas.List.Folds.{prefix_len-append, find-append, list_any_none, find_at}
+use Rattle.std.proofs.lemmas.Bool.{or_parts}
 
 -- the place n of the first of so many, as `position` gives it
 place : ℕ → ℕ → Option ℕ
@@ -28,16 +29,6 @@ place_back : (n m len more i joined total : ℕ) → joined ≡ cond (eqb n len)
     → place m more ≡ Some i → place joined total ≡ Some (len + i)
 unfolding place
 place_back n m len more i joined total joined_is total_is none found = grind (arith, nat_tests)
-
-neither : (a b : Bool) → (a || b) ≡ false → (a ≡ false) × (b ≡ false)
-neither false false h = (refl, refl)
-neither false true h = cc
-neither true b h = cc
-
-pub both_pass : (a b : Bool) → (a && b) ≡ true → (a ≡ true) × (b ≡ true)
-both_pass true true h = (refl, refl)
-both_pass true false h = cc
-both_pass false b h = cc
 
 module _ {X : Type 0} (p : X → Bool) where
   pub list_any_where_none : (xs : List X) → position p xs ≡ None → list_any p xs ≡ false
@@ -63,12 +54,12 @@ module _ {X : Type 0} (p : X → Bool) where
   position_or_len_where_none : (xs : List X) → list_any p xs ≡ false → position_or_len p xs ≡ length xs
   position_or_len_where_none [] none = refl
   position_or_len_where_none (x ∷ xs) none =
-      let t = neither (p x) (list_any p xs) none in
+      let t = or_parts (p x) (list_any p xs) none in
       rw t.0 (omega (arith, position_or_len_where_none xs t.1))
 
   pub find_where_none : (xs : List X) → list_any p xs ≡ false → find p xs ≡ None
   find_where_none [] none = refl
-  find_where_none (x ∷ xs) none = let t = neither (p x) (list_any p xs) none in rw t.0 (find_where_none xs t.1)
+  find_where_none (x ∷ xs) none = let t = or_parts (p x) (list_any p xs) none in rw t.0 (find_where_none xs t.1)
 
   -- the first of two lists is the first of the former, where that has one
   pub position-append_front : (xs ys : List X) (i : ℕ) → position p xs ≡ Some i → position p (xs ++ ys) ≡ Some i

@@ -60,7 +60,7 @@ apart_along : (axis : Axis) (a b : Bounds) → separating_axis a b ≡ Some axis
 apart_along axis a b h = pick-along axis a b ∙ first_failing _ _ _ axis h
 
 -- ---- an axis along which the body doesn't move
-part_at-none : (n k : ℕ) → part_at n k (pos 0) ≡ pos 0
+pub part_at-none : (n k : ℕ) → part_at n k (pos 0) ≡ pos 0
 part_at-none n k =
     let none : 0 * k ≡ 0 = omega arith in
     ap pos (ap (λ (m : ℕ). m / n) none ∙ zero-div n)

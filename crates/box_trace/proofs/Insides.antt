@@ -3,7 +3,7 @@ use Rattle.std.proofs.Common.{◌≡◌, ℕ, zero, suc, ◌+◌, ◌*◌, ◌/�
 use Rattle.std.proofs.Math.Nat.{zero-div, lt-div-mul-add, div-mul-le_self, mul-suc}
 use Rattle.std.proofs.lemmas.Nat.{div_below, le-div}
 use Rattle.std.proofs.lemmas.Int.{ints}
-use Rattle.std.proofs.lemmas.Bool.{both_ways}
+use Rattle.std.proofs.lemmas.Bool.{both_ways, or_parts}
 use Rattle.arena_geo.specs.declared.vec3.Vec3.{Vec3}
 use Rattle.arena_geo.specs.Bounds.{Bounds, bounds, IsOrdered}
 use Rattle.arena_geo.specs.Boxes.{overlaps_on, overlaps, contains_on, contains, is_blocked}
@@ -44,10 +44,10 @@ part_at-next n k (negsuc a) small within =
     let by_one = share_grows_by_one (suc a) k n (omega arith) small in
     record { up = rw (part_at-neg n k a, part_at-neg n (suc k) a) (omega (arith, ints)); down = rw (part_at-neg n k a, part_at-neg n (suc k) a) (omega (arith, ints)) }
 
-times_zero : (a : ℤ) → a *ℤ pos 0 ≡ pos 0
+pub times_zero : (a : ℤ) → a *ℤ pos 0 ≡ pos 0
 times_zero a = omega (arith, ints)
 
-part_at-zero : (n : ℕ) (d : ℤ) → part_at n 0 d ≡ pos 0
+pub part_at-zero : (n : ℕ) (d : ℤ) → part_at n 0 d ≡ pos 0
 part_at-zero n d = rw times_zero (rw zero-div refl)
 
 stays_at : (a n : ℤ) → n ≡ pos 0 → a +ℤ n ≡ a
@@ -127,18 +127,14 @@ record SixFail (a b c d e f : Bool) : Type 0 where
   pub low_z : e ≡ false
   pub high_z : f ≡ false
 
-neither : (a b : Bool) → (a || b) ≡ false → (a ≡ false) × (b ≡ false)
-neither false b h = (refl, h)
-neither true b h = cc
-
 six_fail : (a b c d e f : Bool) → (a || (b || (c || (d || (e || (f || false)))))) ≡ false → SixFail a b c d e f
 six_fail a b c d e f h0 =
-    let p = neither a _ h0 in
-    let q = neither b _ p.1 in
-    let r = neither c _ q.1 in
-    let s = neither d _ r.1 in
-    let t = neither e _ s.1 in
-    let u = neither f _ t.1 in
+    let p = or_parts a _ h0 in
+    let q = or_parts b _ p.1 in
+    let r = or_parts c _ q.1 in
+    let s = or_parts d _ r.1 in
+    let t = or_parts e _ s.1 in
+    let u = or_parts f _ t.1 in
     record { low_x = p.0; high_x = q.0; low_y = r.0; high_y = s.0; low_z = t.0; high_z = u.0 }
 
 -- a body close to the arena that none of its walls blocks lies inside

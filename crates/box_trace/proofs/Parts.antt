@@ -1,22 +1,15 @@
 -- How far a part has come at a step.
-use Rattle.std.proofs.Common.{◌≡◌, ℕ, zero, suc, ◌*◌, ◌/◌, ◌≤◌, ℤ, pos, negsuc, ◌*ℤ◌, neg_ℤ, unsigned_abs, int_div, FitsSigned, refl, ap, ◌∙◌, arith}
+use Rattle.std.proofs.Common.{◌≡◌, ℕ, suc, ◌*◌, ◌/◌, ◌≤◌, ℤ, pos, negsuc, ◌*ℤ◌, neg_ℤ, unsigned_abs, int_div, FitsSigned, refl, ap, ◌∙◌, arith}
 use Rattle.std.specs.Int.{w32, w64, cast_signed, cast_unsigned}
-use Rattle.std.proofs.Math.Nat.{div-le_of_le-mul, mul-le-mul_left, zero-div}
+use Rattle.std.proofs.Math.Nat.{div-le_of_le-mul, mul-le-mul_left}
 use Rattle.std.proofs.lemmas.Nat.{mul-le}
 use Rattle.std.proofs.lemmas.Int.{to_z-of_z, fits_signed_from_abs, unsigned_abs-mul, quot_is}
+use Rattle.arena_geo.proofs.Quotients.{int_div-neg, unsigned_abs-neg}
 use Rattle.box_trace.specs.Steps.{part_at}
 
 -- a share of a whole is at most the whole
 pub share_le : (size k n : ℕ) → k ≤ n → size * k / n ≤ size
 share_le size k n within = div-le_of_le-mul n (omega (arith, mul-le-mul_left size within))
-
-unsigned_abs-neg : (m : ℕ) → unsigned_abs (neg_ℤ (pos m)) ≡ m
-unsigned_abs-neg zero = refl
-unsigned_abs-neg (suc m) = refl
-
-int_div-neg : (m n : ℕ) → int_div (neg_ℤ (pos m)) (pos n) ≡ neg_ℤ (pos (m / n))
-int_div-neg zero n = rw zero-div refl
-int_div-neg (suc m) n = refl
 
 -- a part below 0 has come as far as one above, the other way
 pub part_at-neg : (n k a : ℕ) → part_at n k (negsuc a) ≡ neg_ℤ (pos (suc a * k / n))

@@ -1,18 +1,13 @@
 -- The steps at which a span overlaps another.
-use Rattle.std.proofs.Common.{◌≡◌, ℕ, suc, ◌*◌, ◌/◌, Bool, true, false, ◌&&◌, nat_le, nat_lt, ℤ, pos, negsuc, ◌+ℤ◌, ◌-ℤ◌, ◌<ℤ◌, neg_ℤ, unsigned_abs, int_le, int_lt, refl, ◌∙◌, arith}
+use Rattle.std.proofs.Common.{◌≡◌, ℕ, suc, ◌*◌, ◌/◌, Bool, ◌&&◌, nat_le, nat_lt, ℤ, pos, negsuc, ◌+ℤ◌, ◌-ℤ◌, ◌<ℤ◌, neg_ℤ, unsigned_abs, int_le, int_lt, ◌∙◌, arith}
 use Rattle.std.proofs.lemmas.Bool.Decides.{nat_tests}
 use Rattle.std.proofs.lemmas.Int.{ints}
+use Rattle.std.proofs.Math.Bool.{and_comm}
 use Rattle.arena_geo.specs.Boxes.{overlaps_on}
 use Rattle.box_trace.specs.declared.span.Span.{Span}
 use Rattle.box_trace.specs.declared.window.Window.{Window}
 use Rattle.box_trace.specs.Windows.{IsFirstReach, IsOverlapWindow, mirrored}
 use Rattle.box_trace.proofs.Parts.{part_at-neg}
-
-and_comm : (a b : Bool) → (a && b) ≡ (b && a)
-and_comm true true = refl
-and_comm true false = refl
-and_comm false true = refl
-and_comm false false = refl
 
 -- two tests, each given by another, in the other order
 swapped : {a b c d : Bool} → a ≡ c → b ≡ d → (a && b) ≡ (d && c)

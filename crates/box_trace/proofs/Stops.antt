@@ -34,7 +34,7 @@ pub free_way_is_gone : FreeWayIsGone
 free_way_is_gone body d solids free =
     goes_whole_way body d solids (trace_of body d solids) (IsTrace-trace_of body d solids) free
 
-next_of_way : (steps n : ℕ) → (steps == n) ≡ false → steps ≤ n → steps + 1 ≤ n
+pub next_of_way : (steps n : ℕ) → (steps == n) ≡ false → steps ≤ n → steps + 1 ≤ n
 next_of_way steps n other within = grind (arith, nat_tests)
 
 -- a step that is the next after those gone is blocked

@@ -1,7 +1,7 @@
 -- The trace out of what a body meets first, and that there is one trace.
 use Rattle.std.proofs.Common.{◌≡◌, ℕ, zero, suc, ◌+◌, ◌-◌, ◌≤◌, Bool, true, false, cond, not, ◌&&◌, ◌||◌, List, Option, Some, None, option_map, is_none, refl, sym, ap, ◌∙◌, arith, subst, add-one}
 use Rattle.std.specs.Cmp.Derive.{both_true}
-use Rattle.std.proofs.lemmas.Bool.{eq-eqb, ne_eqb, both_ways, not-true}
+use Rattle.std.proofs.lemmas.Bool.{eq-eqb, ne_eqb, both_ways, not-true, and_parts}
 use Rattle.arena_geo.specs.declared.vec3.Vec3.{Vec3}
 use Rattle.arena_geo.specs.Bounds.{Bounds}
 use Rattle.arena_geo.specs.Boxes.{overlaps_on, overlaps, is_blocked}
@@ -13,7 +13,7 @@ use Rattle.box_trace.specs.Steps.{step_count, body_at}
 use Rattle.box_trace.specs.Traces.{IsFree, IsTrace, apart_axis, axis_after, block_at, is_free, greatest, free_steps, hit_after, trace_of, is_inside_block}
 use Rattle.box_trace.specs.Laws.{TraceIsUnique}
 use Rattle.box_trace.specs.Meetings.{MeetsFirst, IsFirstMeeting, hit_of}
-use Rattle.box_trace.proofs.Firsts.{find_where_none, slice_get_first, both_pass}
+use Rattle.box_trace.proofs.Firsts.{find_where_none, slice_get_first}
 use Rattle.box_trace.proofs.FirstMeetings.{IsFree-more}
 
 -- a step that is blocked bounds what is free
@@ -82,7 +82,7 @@ free_from_test : (body : Bounds) (d : Vec3) (solids : List Bounds) (k : ℕ) →
     → IsFree body d solids k
 free_from_test body d solids zero pass = record { free = λ i one within. absurd (omega arith) }
 free_from_test body d solids (suc k) pass =
-    let t = both_pass (is_free body d solids k) (not (is_blocked (body_at body d (suc k)) solids)) pass in
+    let t = and_parts (is_free body d solids k) (not (is_blocked (body_at body d (suc k)) solids)) pass in
     let P : ℕ → Type 0 = λ j. is_blocked (body_at body d j) solids ≡ false in
     let next : is_blocked (body_at body d (k + 1)) solids ≡ false = subst P (sym (add-one k)) (not-true _ t.1) in
     let Q : ℕ → Type 0 = λ j. IsFree body d solids j in

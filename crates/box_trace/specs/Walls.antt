@@ -1,6 +1,7 @@
 -- The walls of an arena: the solids that bound it.
-use Rattle.std.specs.Prelude.{◌≡◌, Bool, true, false, ◌||◌, List, [], ◌∷◌, ◌++◌, pos}
+use Rattle.std.specs.Prelude.{◌≡◌, true, List, [], ◌∷◌, ◌++◌, pos}
 use Rattle.std.proofs.lemmas.List.Folds.{list_any-append}
+use Rattle.std.proofs.lemmas.Bool.{or_left}
 use Rattle.arena_geo.specs.declared.vec3.Vec3.{Vec3}
 use Rattle.arena_geo.specs.Vectors.{vector, plus, minus}
 use Rattle.arena_geo.specs.Bounds.{Bounds, bounds}
@@ -42,15 +43,11 @@ walls_of b =
 pub record HaveWalls (arena : Bounds) (solids : List Bounds) : Type 0 where
   pub blocked : (b : Bounds) → is_blocked b (walls_of arena) ≡ true → is_blocked b solids ≡ true
 
-or_true : (s t : Bool) → s ≡ true → (s || t) ≡ true
-or_true true t h = h
-or_true false t h = cc
-
 -- solids with more after them block what they block
 blocked_by_more : (b : Bounds) (solids more : List Bounds)
     → is_blocked b solids ≡ true → is_blocked b (solids ++ more) ≡ true
 blocked_by_more b solids more h =
-    rw list_any-append (or_true (is_blocked b solids) (is_blocked b more) h)
+    rw list_any-append (or_left (is_blocked b solids) (is_blocked b more) h)
 
 -- solids that begin with the walls have them
 pub have_walls_first : (arena : Bounds) (more : List Bounds) → HaveWalls arena (walls_of arena ++ more)

@@ -1,0 +1,2 @@
+-- Lemmas on bytes.
+pub mod Bytes

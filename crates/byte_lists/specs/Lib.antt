@@ -1,1 +1,2 @@
--- No definitions: contracts see both types as lists of numbers.
+-- Bytes, as contracts see them: lists of numbers.
+pub mod Bytes

@@ -149,7 +149,7 @@ given-count : (r next : Receiving) (moves : List Command) → next.lists.moves �
 unfolding given_count
 given-count r next moves e = ap (λ (l : List Command). cond (is_some_move l) 1 0) (ap (drop (length r.lists.moves)) e ∙ drop-append_seam r.lists.moves moves)
 
-true-lt : (n : ℕ) → 1 ≤ n → nat_lt 0 n ≡ true
+pub true-lt : (n : ℕ) → 1 ≤ n → nat_lt 0 n ≡ true
 true-lt n h = grind (arith, nat_tests)
 
 count-step : (map : MapView) (frame : ℕ) (r : Receiving) (place : ℕ) (a : Arrival)

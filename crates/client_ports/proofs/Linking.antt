@@ -7,6 +7,7 @@ use Rattle.std.proofs.lemmas.List.Sums.{fold_push}
 use Rattle.entity_recs.specs.declared.rec.Rec.{Rec}
 use Rattle.world_tree.specs.Live.{record_at}
 use Rattle.world_tree.specs.Worlds.{WorldView, with_record, with_records, without_id}
+use Rattle.world_tree.proofs.Rounds.{range-more}
 use Rattle.client_ports.specs.declared.received.Joined.{Joined}
 use Rattle.client_ports.specs.declared.client.Client.{Client}
 use Rattle.client_ports.specs.Clients.{client_at}
@@ -65,11 +66,6 @@ pub linked-none : (start w : WorldView) (joined : List Joined) → IsLinkedSince
 linked-none start w joined is none = is.world ∙ ap (λ (js : List Joined). with_records start (players_of w.records js)) none
 
 -- ---- the end of a frame
-
--- so many numbers and one more
-range-more : (a n : ℕ) → range_with_len a (suc n) ≡ range_with_len a n ++ (a + n) ∷ []
-range-more a zero = ap (λ (k : ℕ). k ∷ []) (omega arith)
-range-more a (suc n) = ap (λ (l : List ℕ). a ∷ l) (range-more (a + 1) n ∙ ap (λ (k : ℕ). range_with_len (a + 1) n ++ k ∷ []) (omega arith))
 
 -- the slots below some whose clients leave
 pub leavers_below : List (Option Client) → ℕ → List ℕ

@@ -1,8 +1,8 @@
 -- The loop that accepts the new commands of a packet.
 use Rattle.std.proofs.Common.{◌≡◌, ℕ, suc, ◌+◌, ◌<◌, ◌≤◌, Bool, true, cond, List, ◌∷◌, length, map as map_list, drop, sym, ap, ◌∙◌, arith, drop-cons, get_or, length-append}
 use Rattle.std.specs.Prelude.{nat_lt}
-use Rattle.std.proofs.lemmas.Bool.Decides.{nat_tests}
 use Rattle.std.proofs.lemmas.List.{get_or_default, length-map}
+use Rattle.std.proofs.lemmas.Bool.{lt-ltb}
 use Rattle.packet_read.specs.declared.move_packet.MovePacket.{MovePacket}
 use Rattle.client_ports.specs.NewMoves.{new_among}
 use Rattle.client_ports.specs.Lists.{Lists, with_moves}
@@ -46,12 +46,9 @@ accept-room last frame slot i most step steps l start below is test so_far fits 
     let next = ap (λ (s : List MovePacket). length s) (new-next last i step steps true below is test) in
     omega (arith, next, accepted-count last frame slot i steps l start so_far, fits)
 
-true-lt : (m n : ℕ) → m < n → nat_lt m n ≡ true
-true-lt m n h = grind (arith, nat_tests)
-
 -- and so for the command at an index, in the words of the code's tests
 pub room-at : (last frame slot i most : ℕ) (d : MovePacket) (steps : List MovePacket) (l start : Lists) → i < length steps → last < (get_or steps i d).seq
     → IsAccepting last frame slot i steps l start → length start.moves + length (new_among last steps) ≤ most → length l.moves < most
 room-at last frame slot i most d steps l start below above so_far fits =
     let step = get_or steps i d in
-    accept-room last frame slot i most step steps l start below (get_or_default steps i d step below) (true-lt last step.seq above) so_far fits
+    accept-room last frame slot i most step steps l start below (get_or_default steps i d step below) (lt-ltb last step.seq above) so_far fits

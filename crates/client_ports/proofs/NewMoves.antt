@@ -1,11 +1,11 @@
 -- What holds of the new commands of a packet: they rise, and are some of its commands.
-use Rattle.std.proofs.Common.{◌≡◌, ℕ, zero, suc, ◌+◌, ◌<◌, ◌≤◌, Bool, true, false, cond, nat_lt, List, [], ◌∷◌, length, drop, Option, Some, None, Result, Ok, Err, refl, ap, subst, arith}
+use Rattle.std.proofs.Common.{◌≡◌, ℕ, ◌+◌, ◌≤◌, Bool, true, false, cond, nat_lt, List, [], ◌∷◌, length, drop, Option, Some, None, Result, Ok, Err, refl, ap, subst, arith}
 use Rattle.std.specs.Prelude.{min}
 use Rattle.std.specs.List.{All}
 use Rattle.std.proofs.Math.Nat.{min-le_right}
 use Rattle.std.proofs.lemmas.List.Elements.{All-nil, All-head, All-tail, All-cons}
-use Rattle.std.proofs.lemmas.Bool.Decides.{nat_tests}
 use Rattle.std.proofs.lemmas.List.Sums.{length-filter, count_by-le-length}
+use Rattle.std.proofs.lemmas.Bool.{ltb-false, ltb-true}
 use Rattle.packet_read.specs.declared.move_packet.MovePacket.{MovePacket}
 use Rattle.packet_read.specs.declared.packet.Packet.{Packet}
 use Rattle.packet_read.specs.declared.packet.Packet.TheVariants.{Join, Step, Leave, Steps}
@@ -15,8 +15,10 @@ use Rattle.packet_read.specs.declared.steps_packet.StepsPacket.{StepsPacket}
 use Rattle.packet_read.specs.Commands.{commands_of, numbered, numbered_from, first_seq}
 use Rattle.packet_read.specs.Spelling.{IsAllowedBlock, IsAllowedSteps}
 use Rattle.packet_read.specs.Cause as cause
-use Rattle.packet_read.specs.Cause.{Form, form_in, blocks_from, blocks_in, cause_of, count_in, seq_in}
+use Rattle.packet_read.specs.Cause.{Form, form_in, blocks_in, cause_of, count_in, seq_in}
 use Rattle.packet_read.specs.Reading.{reading, packet_of, answer}
+use Rattle.packet_read.proofs.Numbers.{length-numbered}
+use Rattle.packet_read.proofs.Blocks.{length_blocks}
 use Rattle.client_ports.specs.NewMoves.{new_among, numbers_in, RiseFrom, TakesItsTime}
 
 -- the numbers rise, whatever the first is
@@ -28,12 +30,6 @@ rise-tail : (n : ℕ) (xs : List ℕ) → RiseFrom n xs → Rise xs
 rise-tail n [] rise = tt
 rise-tail n (m ∷ xs) rise = rise.1
 
-lt-true : (m n : ℕ) → nat_lt m n ≡ true → m < n
-lt-true m n h = grind (arith, nat_tests)
-
-lt-false : (m n : ℕ) → nat_lt m n ≡ false → n ≤ m
-lt-false m n h = grind (arith, nat_tests)
-
 -- numbers that rise from one at least as high as the last accepted one are all new
 new-from : (last n : ℕ) (steps : List MovePacket) → last ≤ n → RiseFrom n (numbers_in steps) → RiseFrom n (numbers_in (new_among last steps))
 new-from last n [] low rise = tt
@@ -41,7 +37,7 @@ new-from last n (m ∷ steps) low rise = by (nat_lt last m.seq) refl (new-from l
   where
     by : (b : Bool) → nat_lt last m.seq ≡ b → RiseFrom m.seq (numbers_in (new_among last steps)) → RiseFrom n (numbers_in (cond b (m ∷ new_among last steps) (new_among last steps)))
     by true e rest = (rise.0, rest)
-    by false e rest = let h = lt-false last m.seq e in let k = rise.0 in absurd (omega (arith, low, h, k))
+    by false e rest = let h = ltb-false last m.seq e in let k = rise.0 in absurd (omega (arith, low, h, k))
 
 -- the new numbers rise from the last accepted one
 pub new-rise : (last : ℕ) (steps : List MovePacket) → Rise (numbers_in steps) → RiseFrom last (numbers_in (new_among last steps))
@@ -49,7 +45,7 @@ new-rise last [] rise = tt
 new-rise last (m ∷ steps) rise = by (nat_lt last m.seq) refl (new-rise last steps (rise-tail m.seq (numbers_in steps) rise))
   where
     by : (b : Bool) → nat_lt last m.seq ≡ b → RiseFrom last (numbers_in (new_among last steps)) → RiseFrom last (numbers_in (cond b (m ∷ new_among last steps) (new_among last steps)))
-    by true e more = let h = lt-true last m.seq e in (h, new-from last m.seq steps (omega (arith, h)) rise)
+    by true e more = let h = ltb-true last m.seq e in (h, new-from last m.seq steps (omega (arith, h)) rise)
     by false e more = more
 
 -- numbered commands have numbers that rise
@@ -77,14 +73,6 @@ new-few last steps =
 
 -- ---- a packet that is read
 
-length-numbered : (first : ℕ) (blocks : List CmdBlock) → length (numbered_from first blocks) ≡ length blocks
-length-numbered first [] = refl
-length-numbered first (b ∷ more) = let rest = length-numbered (first + 1) more in omega (arith, rest)
-
-length-blocks : (n : ℕ) (bytes : List ℕ) → length (blocks_from n bytes) ≡ n
-length-blocks zero bytes = refl
-length-blocks (suc n) bytes = let rest = length-blocks n (drop 6 bytes) in omega (arith, rest)
-
 -- a packet of any form has at most 3 commands
 form-few : (form : Form) (bytes : List ℕ) → length (commands_of (packet_of form bytes)) ≤ 3
 form-few cause.join bytes = omega arith
@@ -92,7 +80,7 @@ form-few cause.move bytes = omega arith
 form-few cause.leave bytes = omega arith
 form-few cause.steps bytes =
     let blocks = blocks_in bytes in
-    let count = length-blocks (min (count_in bytes) 3) (drop 7 bytes) in
+    let count = length_blocks (min (count_in bytes) 3) (drop 7 bytes) in
     let all = length-numbered (first_seq (record { seq = seq_in bytes; cmds = blocks })) blocks in
     omega (arith, count, all, min-le_right (count_in bytes) 3)
 

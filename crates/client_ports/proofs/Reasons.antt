@@ -1,8 +1,8 @@
 -- That a packet is refused exactly where the reason of the refusal holds.
-use Rattle.std.proofs.Common.{◌≡◌, ◌↔◌, ℕ, suc, ◌+◌, ◌<◌, ◌≤◌, ◌==◌, Bool, true, false, ◌&&◌, ◌||◌, not, nat_lt, cond, if◌then◌else◌, List, [], ◌∷◌, ◌++◌, length, take, All, slice_get, Option, Some, None, is_some, is_none, option_map, Result, Ok, Err, ok_or, sym, refl, ap, ◌∙◌, subst, inl, inr, arith}
+use Rattle.std.proofs.Common.{◌≡◌, ◌↔◌, ℕ, suc, ◌+◌, ◌≤◌, ◌==◌, Bool, true, false, ◌&&◌, ◌||◌, not, nat_lt, cond, if◌then◌else◌, List, [], ◌∷◌, ◌++◌, length, take, All, slice_get, Option, Some, None, is_some, is_none, option_map, Result, Ok, Err, ok_or, sym, refl, ap, ◌∙◌, subst, inl, inr, arith}
 use Rattle.std.specs.Prelude.{map as map_list}
 use Rattle.std.specs.List.{find}
-use Rattle.std.proofs.lemmas.Bool.{eqb-true, ne_eqb}
+use Rattle.std.proofs.lemmas.Bool.{eqb-true, ne_eqb, lt-ltb, ltb-false, ltb-true, and_parts}
 use Rattle.std.proofs.lemmas.Bool.Decides.{nat_tests}
 use Rattle.std.proofs.lemmas.List.{length_push}
 use Rattle.std.proofs.lemmas.List.Elements.{All-cons, All-head, All-nil, All-tail, All-weaker}
@@ -27,6 +27,7 @@ use Rattle.arena_map.specs.Maps.{MapView, solids_of}
 use Rattle.world_tree.specs.Live.{record_at}
 use Rattle.world_tree.specs.Queries.{is_free, solids_in}
 use Rattle.packet_read.specs.declared.arrival.Arrival.{Arrival}
+use Rattle.packet_read.proofs.Rules.{some_of}
 use Rattle.client_ports.specs.declared.client.Client.{Client}
 use Rattle.client_ports.specs.declared.client.LiveSlot.{LiveSlot}
 use Rattle.client_ports.specs.declared.received.Refused.{Refused}
@@ -158,10 +159,6 @@ module _ {X : Type 0} (p : X → Bool) where
 
 -- ---- room at a spawn
 
-both_left : (a b : Bool) → (a && b) ≡ true → a ≡ true
-both_left true b h = refl
-both_left false b h = cc
-
 -- one of the live solids overlaps where their bodies block
 blocked-live : (at : Vec3) (records : List (Option Rec)) (except : ℕ) → is_blocked (player_body at) (map_list body_of (solids_in records except)) ≡ true → OverlapsALiveSolid records at
 blocked-live at [] except h = absurd (true-false (sym h))
@@ -181,7 +178,7 @@ blocked-live at (Some s ∷ records) except h = by (is_solid s.kind && not (s.id
 
     by : (taken : Bool) → (is_solid s.kind && not (s.id == except)) ≡ taken → is_blocked (player_body at) (map_list body_of (if taken then s ∷ rest else rest)) ≡ true
         → (is_blocked (player_body at) (map_list body_of rest) ≡ true → OverlapsALiveSolid records at) → OverlapsALiveSolid (Some s ∷ records) at
-    by true t g more = first (both_left (is_solid s.kind) (not (s.id == except)) t) (overlaps (player_body at) (body_of s)) refl g more
+    by true t g more = first (and_parts (is_solid s.kind) (not (s.id == except)) t).0 (overlaps (player_body at) (body_of s)) refl g more
     by false t g more = later (more g)
 
 -- a place that isn't free has no room
@@ -312,18 +309,6 @@ leave-or (Steps s) kind = refl
 abbrev new_in : LiveSlot → List MovePacket → ℕ
 new_in l steps = length (new_among l.client.last steps)
 
-lt-true : (m n : ℕ) → nat_lt m n ≡ true → m < n
-lt-true m n h = grind (arith, nat_tests)
-
-true-lt : (m n : ℕ) → m < n → nat_lt m n ≡ true
-true-lt m n h = grind (arith, nat_tests)
-
-lt-false : (m n : ℕ) → nat_lt m n ≡ false → n ≤ m
-lt-false m n h = grind (arith, nat_tests)
-
-some-false : (n : ℕ) → (n == 0) ≡ false → 1 ≤ n
-some-false n h = grind (arith, nat_tests)
-
 false-some : (n : ℕ) → 1 ≤ n → (n == 0) ≡ false
 false-some n h = grind (arith, nat_tests)
 
@@ -335,7 +320,7 @@ none-above last (m ∷ steps) e = by (nat_lt last m.seq) refl e (none-above last
     by : (b : Bool) → nat_lt last m.seq ≡ b → (length (cond b (m ∷ new_among last steps) (new_among last steps)) == 0) ≡ true
         → ((length (new_among last steps) == 0) ≡ true → All (λ p. p.seq ≤ last) steps) → All (λ p. p.seq ≤ last) (m ∷ steps)
     by true f h more = let none = eqb-true (length (m ∷ new_among last steps)) 0 h in absurd (omega (arith, none))
-    by false f h more = All-cons (λ p. p.seq ≤ last) m steps (lt-false last m.seq f) (more h)
+    by false f h more = All-cons (λ p. p.seq ≤ last) m steps (ltb-false last m.seq f) (more h)
 
 above-none : (last : ℕ) (steps : List MovePacket) → All (λ m. m.seq ≤ last) steps → (length (new_among last steps) == 0) ≡ true
 above-none last [] all = refl
@@ -343,7 +328,7 @@ above-none last (m ∷ steps) all =
     by (nat_lt last m.seq) refl (All-head (λ p. p.seq ≤ last) m steps all) (above-none last steps (All-tail (λ p. p.seq ≤ last) m steps all))
   where
     by : (b : Bool) → nat_lt last m.seq ≡ b → m.seq ≤ last → (length (new_among last steps) == 0) ≡ true → (length (cond b (m ∷ new_among last steps) (new_among last steps)) == 0) ≡ true
-    by true f low rest = let h = lt-true last m.seq f in absurd (omega (arith, h, low))
+    by true f low rest = let h = ltb-true last m.seq f in absurd (omega (arith, h, low))
     by false f low rest = rest
 
 module _ (arena : MapView) (state : State) (port : ℕ) (are : AreClients state.clients) where
@@ -416,8 +401,8 @@ module _ (arena : MapView) (state : State) (port : ℕ) (are : AreClients state.
             packet = packet;
             sender = l.client;
             move = stays l f a;
-            above = some-false (new_in l (commands_of packet)) b;
-            many = lt-true 8 (l.client.moves + new_in l (commands_of packet)) c;
+            above = some_of (new_in l (commands_of packet)) b;
+            many = ltb-true 8 (l.client.moves + new_in l (commands_of packet)) c;
           })
       at l f false false false a b c h = absurd (none-some why h)
 
@@ -495,7 +480,7 @@ module _ (arena : MapView) (state : State) (port : ℕ) (are : AreClients state.
       let l = live_slot h.move.slot h.sender in
       ap (λ (p : Result Packet PacketFault). cause arena state p port) h.move.is_read
       ∙ move-cause arena state port are h.packet l false true h.move.kind (client-found arena state port are h.move.slot h.sender h.move.is_client) h.move.stays
-      (false-some (new_in l (commands_of h.packet)) h.above) (true-lt 8 (h.sender.moves + new_in l (commands_of h.packet)) h.many)
+      (false-some (new_in l (commands_of h.packet)) h.above) (lt-ltb 8 (h.sender.moves + new_in l (commands_of h.packet)) h.many)
 
 -- a packet is refused exactly where the reason holds
 pub refused_with_reason : (arena : MapView) (frame : ℕ) (r : Receiving) (place : ℕ) (a : Arrival) (why : Refusal) → AreClients r.state.clients → IsState arena r.state

@@ -47,7 +47,7 @@ room_enough n most few = record {
 }
 
 -- an arrival has at most 3 commands
-count-few : (read : Result Packet PacketFault) → ((p : Packet) → read ≡ Ok p → length (commands_of p) ≤ 3) → command_count read ≤ 3
+pub count-few : (read : Result Packet PacketFault) → ((p : Packet) → read ≡ Ok p → length (commands_of p) ≤ 3) → command_count read ≤ 3
 count-few (Err why) few = omega arith
 count-few (Ok p) few = few p refl
 

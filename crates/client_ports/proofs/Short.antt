@@ -76,7 +76,7 @@ few-below (suc n) moves few =
 -- ---- the moves of a frame
 
 -- the slot of a live client is one of the slots
-within : (clients : List (Option Client)) (slot : ℕ) → IsSome (client_at clients slot) → slot < length clients
+pub within : (clients : List (Option Client)) (slot : ℕ) → IsSome (client_at clients slot) → slot < length clients
 within [] slot some = cc
 within (x ∷ clients) zero some = omega arith
 within (x ∷ clients) (suc slot) some = let rest = within clients slot some in omega (arith, rest)

@@ -1,12 +1,11 @@
 -- What the packets of a frame and its end keep: ports are apart, the state fits the map, and bodies are clear.
-use Rattle.std.proofs.Common.{◌≡◌, ◌⊎◌, ℕ, zero, suc, ◌+◌, ◌<◌, ◌≤◌, Bool, true, false, if◌then◌else◌, List, [], ◌∷◌, All, Option, Some, None, Ok, slice_set, int_lt, sym, refl, ap, ◌∙◌, subst, inl, inr, arith}
+use Rattle.std.proofs.Common.{◌≡◌, ◌⊎◌, ℕ, zero, suc, ◌+◌, ◌<◌, ◌≤◌, Bool, true, false, if◌then◌else◌, List, [], ◌∷◌, All, Option, Some, None, Ok, slice_set, sym, refl, ap, ◌∙◌, subst, inl, inr, arith}
 use Rattle.std.specs.List.{find}
-use Rattle.std.proofs.Math.Bool.{and_comm}
 use Rattle.std.proofs.lemmas.List.{length-set, set-get_or}
 use Rattle.std.proofs.lemmas.List.Elements.{All-head, All-tail}
 use Rattle.std.proofs.lemmas.Option.{none-some, same_Some}
-use Rattle.arena_geo.specs.Bounds.{Bounds}
 use Rattle.arena_geo.specs.Boxes.{overlaps, is_blocked}
+use Rattle.arena_geo.proofs.Overlaps.{overlaps-flips}
 use Rattle.entity_recs.specs.declared.rec.Rec.{Rec}
 use Rattle.entity_recs.specs.Bodies.{body_of}
 use Rattle.packet_read.specs.declared.move_packet.MovePacket.{MovePacket}
@@ -159,13 +158,6 @@ unfolding received
 server_received map frame state arrivals rules is = server-through map frame _ 0 arrivals rules is
 
 -- ---- bodies stay clear
-
-pub overlaps-flips : (a b : Bounds) → overlaps a b ≡ overlaps b a
-overlaps-flips a b =
-    let x = and_comm (int_lt a.lo.x b.hi.x) (int_lt b.lo.x a.hi.x) in
-    let y = and_comm (int_lt a.lo.y b.hi.y) (int_lt b.lo.y a.hi.y) in
-    let z = and_comm (int_lt a.lo.z b.hi.z) (int_lt b.lo.z a.hi.z) in
-    rw (x, y, z) refl
 
 clear-join : (map : MapView) (state : State) (to : Place) → IsClear map state to → AreClear map state.records → AreClear map (slice_set state.records to.slot (Some (newcomer to.slot to.at)))
 clear-join map state to new are = record {

@@ -1,8 +1,8 @@
 -- That bodies are clear at the start: the only solids are the lifts of the map, whose shafts are apart.
-use Rattle.std.proofs.Common.{◌≡◌, ℕ, zero, suc, ◌-◌, ◌<◌, ◌≤◌, Bool, true, false, ◌&&◌, int_lt, List, [], ◌∷◌, All, Option, Some, None, slice_get, ℤ, pos, ◌+ℤ◌, ◌-ℤ◌, ◌≤ℤ◌, refl, sym, ap, ◌∙◌, subst, inl, inr, arith}
+use Rattle.std.proofs.Common.{◌≡◌, ℕ, zero, suc, ◌-◌, ◌<◌, ◌≤◌, true, false, int_lt, List, [], ◌∷◌, All, Option, Some, None, slice_get, ℤ, pos, ◌+ℤ◌, ◌-ℤ◌, ◌≤ℤ◌, refl, sym, ap, ◌∙◌, subst, inl, inr, arith}
 use Rattle.std.specs.Cmp.Derive.{both_true}
 use Rattle.std.specs.List.{AllPairs, filter_map, cons_option}
-use Rattle.std.proofs.lemmas.Bool.{cases_Bool, cases_lt}
+use Rattle.std.proofs.lemmas.Bool.{cases_Bool, cases_lt, and_parts}
 use Rattle.std.proofs.lemmas.Int.{ints}
 use Rattle.std.proofs.lemmas.List.Elements.{All-head, All-tail}
 use Rattle.std.proofs.lemmas.Option.{none-some, same_Some}
@@ -11,6 +11,7 @@ use Rattle.arena_geo.specs.Vectors.{minus, zero_vector}
 use Rattle.arena_geo.specs.Bounds.{Bounds}
 use Rattle.arena_geo.specs.Boxes.{overlaps_on, overlaps}
 use Rattle.arena_geo.proofs.Containment.{three_pass, all_three}
+use Rattle.arena_geo.proofs.Overlaps.{overlaps-flips}
 use Rattle.entity_recs.specs.declared.kind.Kind.{Kind}
 use Rattle.entity_recs.specs.declared.kind.Kind.TheVariants as kinds
 use Rattle.entity_recs.specs.declared.rec.Rec.{Rec}
@@ -25,7 +26,6 @@ use Rattle.arena_map.specs.Validity.{IsOpeningWorld}
 use Rattle.arena_map.proofs.Opening.{found-in}
 use Rattle.world_tree.specs.Live.{record_at}
 use Rattle.arena_map.specs.Validity.{AreClear}
-use Rattle.client_ports.proofs.Staying.{overlaps-flips}
 
 -- ---- pairs of a filtered list
 
@@ -66,14 +66,10 @@ kept-pair {X} {Y} h R (z ∷ xs) (suc i) (suc j) x y a b pairs less at_i at_j is
 below : (lo low high up : ℤ) → pos 0 ≤ℤ up → int_lt (lo +ℤ pos 0) (low +ℤ (high -ℤ low)) ≡ true → int_lt lo (high +ℤ up) ≡ true
 below lo low high up a h = grind (arith, ints)
 
-both : (a b : Bool) → (a && b) ≡ true → (a ≡ true) × (b ≡ true)
-both true b h = (refl, h)
-both false b h = cc
-
 axis : (lo hi rise low high up : ℤ) → pos 0 ≤ℤ rise → pos 0 ≤ℤ up → overlaps_on (lo +ℤ pos 0) (lo +ℤ (hi -ℤ lo)) (low +ℤ pos 0) (low +ℤ (high -ℤ low)) ≡ true
     → overlaps_on lo (hi +ℤ rise) low (high +ℤ up) ≡ true
 axis lo hi rise low high up a b h =
-    let parts = both _ _ h in
+    let parts = and_parts _ _ h in
     both_true (below lo low high up b parts.0) (below low lo hi rise a parts.1)
 
 shafts-overlap : (lo hi : Vec3) (rise : ℤ) (low high : Vec3) (up : ℤ) → pos 0 ≤ℤ rise → pos 0 ≤ℤ up

@@ -1,14 +1,15 @@
 -- The packets of a frame are taken in order, each at its own place, and so the refusals have the places of their packets.
 use Rattle.std.specs.Prelude.{slice_get, All}
-use Rattle.std.proofs.Common.{◌≡◌, ◌⊎◌, ◌↔◌, ℕ, zero, suc, ◌+◌, ◌<◌, ◌≤◌, List, [], ◌∷◌, ◌++◌, length, take, Some, sym, refl, ap, ◌∙◌, subst, inl, inr, arith}
+use Rattle.std.proofs.Common.{◌≡◌, ◌⊎◌, ◌↔◌, ℕ, zero, suc, ◌+◌, ◌<◌, List, [], ◌∷◌, ◌++◌, length, take, Some, sym, refl, ap, ◌∙◌, subst, inl, inr, arith}
 use Rattle.std.specs.List.{Contains}
 use Rattle.std.specs.List.Sorted.{IsStrictlyIncreasing}
 use Rattle.std.proofs.lemmas.List.{map-append}
-use Rattle.std.proofs.lemmas.List.Elements.{All-head, All-nil, All-push, All-weaker, Contains-append_left, Contains-push, Contains-push_cases}
+use Rattle.std.proofs.lemmas.List.Elements.{All-nil, All-push, All-weaker, Contains-append_left, Contains-push, Contains-push_cases}
 use Rattle.std.proofs.lemmas.Option.{none-some, same_Some}
 use Rattle.packet_read.specs.Reading.{reading}
 use Rattle.arena_map.specs.Maps.{MapView, IsMap}
 use Rattle.packet_read.specs.declared.arrival.Arrival.{Arrival}
+use Rattle.entity_recs.proofs.Ids.{rising_with}
 use Rattle.client_ports.specs.declared.received.Refused.{Refused}
 use Rattle.client_ports.specs.declared.refusal.Refusal.{Refusal}
 use Rattle.client_ports.specs.States.{State, IsServerState}
@@ -17,7 +18,6 @@ use Rattle.client_ports.specs.Receiving.{Receiving, receiving_of, after_refusal,
 use Rattle.client_ports.specs.Reasons.{HasReason}
 use Rattle.client_ports.specs.Laws.{IsRefused, IsJoined, IsLeave, IsMove}
 use Rattle.client_ports.specs.Frames.{PacketsAreTakenInTurn, IsRefusedIn, places_of, RefusalsHaveTheirPlaces}
-use Rattle.client_ports.proofs.Advances.{rising-one, rising-push}
 use Rattle.client_ports.proofs.Facts.{one_answer}
 use Rattle.client_ports.proofs.Reasons.{refused_with_reason}
 use Rattle.client_ports.proofs.Staying.{server_next}
@@ -163,12 +163,6 @@ refusals_placed map frame state arrivals t rules is = (one, other)
 
 -- ---- the places rise
 
--- a list that rises does so with a number above all of it
-rising_above : (xs : List ℕ) (n : ℕ) → IsStrictlyIncreasing xs → All (λ x. x < n) xs → IsStrictlyIncreasing (xs ++ n ∷ [])
-rising_above [] n rise below = rising-one n
-rising_above (x ∷ xs) zero rise below = let low = All-head (λ y. y < 0) x xs below in absurd (omega (arith, low))
-rising_above (x ∷ xs) (suc m) rise below = rising-push (x ∷ xs) m (suc m) rise (All-weaker (λ y. y < suc m) (λ y. y ≤ m) (λ y h. omega (arith, h)) (x ∷ xs) below) (omega arith)
-
 -- the places rise, and are below this one
 record RiseBelow (place : ℕ) (refused : List Refused) : Type 0 where
   rise : IsStrictlyIncreasing (places_of refused)
@@ -182,7 +176,7 @@ rise_refusal place l why is =
     let later = rise_later place l.refused is in
     let parts : places_of l.refused ++ place ∷ [] ≡ places_of (with_refusal l place why).refused = sym (map-append (λ (t : Refused). t.place) l.refused (record { place = place; why = why } ∷ [])) in
     record {
-      rise = subst IsStrictlyIncreasing parts (rising_above (places_of l.refused) place is.rise is.below);
+      rise = subst IsStrictlyIncreasing parts (rising_with (places_of l.refused) place is.rise is.below);
       below = subst (All (λ k. k < place + 1)) parts (All-push (λ k. k < place + 1) (places_of l.refused) place later.below (omega arith));
     }
 

@@ -1,17 +1,12 @@
 -- A player's bit in a list word.
-use Rattle.std.proofs.Common.{◌≡◌, ℕ, zero, suc, ◌-◌, ◌*◌, ◌%◌, ◌^◌, ◌<◌, ◌==◌, ◌&&◌, ◌||◌, not, inl, inr, bit_and, bit_or, refl, ◌∙◌, arith}
+use Rattle.std.proofs.Common.{◌≡◌, ℕ, ◌-◌, ◌*◌, ◌%◌, ◌^◌, ◌<◌, ◌==◌, ◌&&◌, ◌||◌, not, inl, inr, bit_and, bit_or, refl, ◌∙◌, arith}
 use Rattle.std.specs.Int.{bit_at, w64}
 use Rattle.std.proofs.lemmas.Nat.{or_lt, and_le_l}
 use Rattle.std.proofs.lemmas.Nat.Bits.{bit_at-lt, bit_at_set_same, bit_at_set_other, bit_at_clear_same, bit_at_clear_other}
 use Rattle.std.proofs.lemmas.Bool.{cases_eq, eq-eqb, ne_eqb}
 use Rattle.areanode.specs.Words.{has_bit}
-use Rattle.areanode.proofs.Words.{bit, same_word}
+use Rattle.areanode.proofs.Words.{same_word, bit_by_test}
 use Rattle.core_steps.specs.Cells.{with_bit, without_bit}
-
-bit_by_test : (n : ℕ) → n < 2 → n ≡ bit (n == 1)
-bit_by_test zero below = refl
-bit_by_test (suc zero) below = refl
-bit_by_test (suc (suc n)) below = omega arith
 
 pub word_with_bit : (w slot : ℕ) → w < 2 ^ 64 → slot < 64 → bit_or w (1 * 2 ^ slot % 2 ^ 64) ≡ with_bit w slot
 word_with_bit w slot below player =

@@ -20,6 +20,7 @@ use Rattle.core_steps.specs.Machine.{Machine, Next, next_of, next_step_of, step_
 use Rattle.core_steps.specs.Calls.{Call, has_command, StandsSomehow, MayBeCalled, with_given, with_quitting, after_call}
 use Rattle.core_steps.proofs.Nexts.{next_exists}
 use Rattle.core_steps.proofs.Reached.{stands_called}
+use Rattle.core_steps.proofs.Kept.{other_view}
 use Rattle.core_machine.specs.declared.words.Words.{Words}
 use Rattle.core_seats.specs.declared.seat.Seat.{Seat}
 use Rattle.core_machine.specs.Tables.{words_in}
@@ -29,7 +30,7 @@ use Rattle.core_seats.specs.Going.{view_found}
 use Rattle.core_seats.specs.Nexts.{next_with}
 use Rattle.core_seats.specs.Ready.{is_resolving, effect_due, IsReady}
 use Rattle.core_machine.specs.Cores.{SeatView, CoreView, HasRooms, IsCore, seat_of, no_seat, machine_of}
-use Rattle.core_seats.proofs.Changing.{view_here, view_there}
+use Rattle.core_seats.proofs.Changing.{view_here}
 use Rattle.core_seats.proofs.Sounding.{sound_here}
 use Rattle.core_machine.proofs.StepsMade.{due_at}
 
@@ -122,7 +123,7 @@ view_after : (F : Fixed) (core : Core) (i : ℕ) (next : Next) (new : View) → 
     → put i new core.view ≡ (core_after F core i next).view
 view_after F core i next new is = fun_ext (λ j. elim (cases_Bool (j == i)) [
   | inl same ↦ cond-true (j == i) new (core.view j) same ∙ is ∙ sym (view_here F core i next) ∙ ap (core_after F core i next).view (sym (eqb-true j i same))
-  | inr other ↦ cond-false (j == i) new (core.view j) other ∙ sym (view_there F core i j next other)
+  | inr other ↦ cond-false (j == i) new (core.view j) other ∙ sym (other_view F core i j next other)
 ])
 
 -- the machine after a seat's step

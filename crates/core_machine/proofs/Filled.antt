@@ -1,13 +1,10 @@
 -- A machine at its start, to whose seats commands are given one after another.
 use Rattle.std.proofs.Common.{◌≡◌, ℕ, zero, suc, ◌<◌, ◌≤◌, true, List, [], ◌∷◌, length, map, get_or, refl, sym, ap, ◌∙◌, subst, Some, None, arith}
-use Rattle.std.proofs.lemmas.Int.{ints}
 use Rattle.entity_recs.specs.Commands.{Command}
-use Rattle.entity_recs.specs.Actions.{IsCommand}
 use Rattle.core_steps.specs.Views.{Fixed, Idle, View}
 use Rattle.core_steps.specs.Machine.{Machine}
 use Rattle.core_steps.specs.Calls.{start_machine}
 use Rattle.core_steps.proofs.Reached.{idle_at_start}
-use Rattle.core_machine.specs.Plain.{plain_command}
 use Rattle.core_machine.proofs.Starting.{seats_with, views_of, more_seat, start_views}
 
 -- the first seats have a command of the player with their number, and the others none; the first n seats live and have room
@@ -18,25 +15,8 @@ pub record IsFilled (m : Machine) (i n : ℕ) : Type 0 where
   pub lives : (j : ℕ) → j < n → (m.core.view j).live ≡ true
   pub room : (j : ℕ) → j < n → length (m.core.view j).log < (m.core.view j).room
 
-plain_is : (slot : ℕ) → slot < 64 → IsCommand (plain_command slot)
-plain_is slot below = record {
-  slot = below;
-  seq = omega arith;
-  frame = omega arith;
-  least_ms = omega arith;
-  most_ms = omega arith;
-  low_x = omega (arith, ints);
-  high_x = omega (arith, ints);
-  low_y = omega (arith, ints);
-  high_y = omega (arith, ints);
-  buttons = omega arith;
-}
-
 none_is : {R : Type 0} (d : Command) → None ≡ Some d → R
 none_is d e = cc
-
-some_is : (c d : Command) → Some c ≡ Some d → c ≡ d
-some_is c d e = cc
 
 more_live : (rooms : List ℕ) (j : ℕ) → j < length rooms → (views_of (map more_seat rooms) j).live ≡ true
 more_live [] j below = absurd (omega arith)

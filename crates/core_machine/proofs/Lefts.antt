@@ -1,6 +1,5 @@
 -- From a seat's next step to the word that it leaves.
 use Rattle.std.proofs.Common.{◌≡◌, ℕ, ◌+◌, ◌-◌, ◌*◌, ◌==◌, Bool, true, false, List, [], ◌∷◌, ◌++◌, refl, sym, ap, ◌∙◌, subst, Option, Some, None, is_some, suc, if◌then◌else◌, arith, add-one}
-use Rattle.std.proofs.lemmas.Bool.{false≢true}
 use Rattle.entity_recs.specs.declared.effect.Effect.{Effect}
 use Rattle.entity_recs.specs.Commands.{Command}
 use Rattle.core_steps.specs.declared.sizes.TheConstants.{NODE_HOLDERS}
@@ -10,6 +9,7 @@ use Rattle.core_steps.specs.Steps.{point_after_take, taking, next_give, first_yi
 use Rattle.core_steps.specs.Machine.{Next, Begin, LoadOwn, LoadAgain, TakeNode, ClaimNode, ReadList, ReadPlayer, ReadState, CommitMove, StoreWord, GiveNode, beginning, committing, giving, quitting, resolving, kind_of, index_of}
 use Rattle.core_seats.specs.Going.{word_left}
 use Rattle.core_seats.specs.Nexts.{next_point, next_with, the_next}
+use Rattle.core_seats.proofs.Steps.{some_next}
 use Rattle.core_machine.specs.WordsLeft.{takes_to_write, first_stored, word_by_kind}
 
 no_less : (node : ℕ) → 1 + node - 1 ≡ node
@@ -19,10 +19,6 @@ no_less node = omega arith
 not_writing : (got rest : List ℕ) → is_writing (stage_of (taking got rest)) ≡ false
 not_writing got [] = refl
 not_writing got (leaf ∷ rest) = refl
-
-some_next : (o : Option Next) → is_some o ≡ true → o ≡ Some (the_next o)
-some_next None some = absurd (false≢true some)
-some_next (Some next) some = refl
 
 -- the word that a step leaves follows from its kind, and a take comes where leaves are wanted
 pub record IsLeftByKind (F : Fixed) (i : ℕ) (view : View) (found : ℕ) (next : Next) : Type 0 where

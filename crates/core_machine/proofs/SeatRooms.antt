@@ -1,5 +1,5 @@
 -- Seats keep their rooms, and so the count of commits is small.
-use Rattle.std.proofs.Common.{◌≡◌, ℕ, zero, suc, ◌+◌, ◌*◌, ◌^◌, ◌<◌, ◌≤◌, List, [], length, sym, ap, ◌∙◌, subst, inl, inr, arith, length-append}
+use Rattle.std.proofs.Common.{◌≡◌, ℕ, ◌+◌, ◌^◌, ◌<◌, ◌≤◌, List, [], length, sym, ap, ◌∙◌, subst, inl, inr, arith}
 use Rattle.core_steps.specs.declared.sizes.TheConstants.{MOST_SEATS}
 use Rattle.std.proofs.lemmas.Bool.{cases_Bool}
 use Rattle.std.proofs.lemmas.List.Sorted.{length_permutation}
@@ -7,9 +7,10 @@ use Rattle.entity_recs.specs.Histories.{Item}
 use Rattle.entity_recs.specs.Worlds.{World}
 use Rattle.core_steps.specs.Views.{Fixed, Ended}
 use Rattle.core_steps.specs.Steps.{Core}
-use Rattle.core_steps.specs.Stands.{ended_log, log_of, items_below, items_of, Stands}
+use Rattle.core_steps.specs.Stands.{ended_log, log_of, items_of, Stands}
 use Rattle.core_steps.specs.Machine.{Next, core_after}
 use Rattle.core_steps.proofs.SameSeats.{SeatPart, same_seats}
+use Rattle.core_steps.proofs.Appending.{below_small}
 use Rattle.core_machine.specs.Cores.{HasRooms}
 
 -- the seats have their rooms after a step
@@ -23,14 +24,6 @@ rooms_after F core i next rooms =
     }
 
 -- ---- the count of commits
-
-below_small : (n : ℕ) (logs : ℕ → List Item) → ((k : ℕ) → length (logs k) < 2 ^ 32) → length (items_below n logs) ≤ n * 2 ^ 32
-unfolding items_below
-below_small zero logs small = omega arith
-below_small (suc n) logs small =
-    let rest = below_small n logs small in
-    let one = small n in
-    rw (length-append (items_below n logs) (logs n)) (omega (arith, rest, one))
 
 none_long : (ended : List Ended) (n : ℕ) → ended ≡ [] → length (ended_log ended n) < 2 ^ 32
 none_long ended n none = rw none (omega arith)

@@ -1,10 +1,9 @@
 -- The words of the start, from its records.
 use mathlib.Core.Path.{fun_ext}
-use Rattle.std.proofs.Common.{◌≡◌, ℕ, ◌+◌, ◌^◌, ◌<◌, ◌==◌, ◌&&◌, Bool, true, false, List, [], ◌∷◌, length, map, set, get_or, get_or-set_same, get_or-set_other, refl, sym, ap, ◌∙◌, inl, inr, Some, None, if◌then◌else◌, zero, suc, arith}
+use Rattle.std.proofs.Common.{◌≡◌, ℕ, ◌+◌, ◌<◌, ◌==◌, ◌&&◌, Bool, true, false, List, [], ◌∷◌, length, map, set, get_or, get_or-set_same, get_or-set_other, refl, sym, ap, ◌∙◌, inl, inr, Some, None, arith}
 use Rattle.std.specs.Prelude.{nat_lt}
 use Rattle.std.proofs.lemmas.Bool.{cases_Bool, cases_eq, lt-ltb, ltb-true, or_left, or_right, and_parts, cond-true, cond-false}
 use Rattle.std.proofs.Math.Bool.{and-false}
-use Rattle.areanode.specs.Words.{word_of}
 use Rattle.entity_recs.specs.declared.rec.Rec.{Rec}
 use Rattle.entity_recs.specs.Worlds.{record_with, nobody}
 use Rattle.core_steps.specs.Cells.{Words}
@@ -62,16 +61,6 @@ pub none_linked : (F : Fixed) (slot node : ℕ) → has F.start.ids slot ≡ fal
 none_linked F slot node none =
     ap (λ (b : Bool). b && (node == home F (F.start.record_of slot))) (sym (ap (λ (b : Bool). nat_lt slot 64 && b) none ∙ and-false (nat_lt slot 64)))
 
--- ---- a word by its bits
-
-pub word_none : (test : ℕ → Bool) → 0 ≡ word_of 0 test
-unfolding word_of
-word_none test = refl
-
-pub word_next : (n : ℕ) (test : ℕ → Bool) → word_of (n + 1) test ≡ (if test n then 2 ^ n else 0) + word_of n test
-unfolding word_of
-word_next n test = let next : n + 1 ≡ suc n = omega arith in ap (λ (k : ℕ). word_of k test) next
-
 -- ---- an array that is filled from its first place on
 
 pub filled : {A : Type 0} (xs : List A) (i : ℕ) (x d : A) (f : ℕ → A) → i < length xs → ((k : ℕ) → k < i → get_or xs k d ≡ f k) → x ≡ f i
@@ -93,16 +82,6 @@ all_rows body f same = fun_ext (λ slot. fun_ext (λ k. elim (cases_Bool (nat_lt
   | inl e ↦ cond-true (nat_lt slot 64 && nat_lt k 5) (get_or (get_or body slot []) k 0) (f slot k) e ∙ same slot k (ltb-true slot 64 (and_parts (nat_lt slot 64) (nat_lt k 5) e).0)
   | inr e ↦ cond-false (nat_lt slot 64 && nat_lt k 5) (get_or (get_or body slot []) k 0) (f slot k) e
 ]))
-
--- so many zeros
-abbrev pub zeros : ℕ → List ℕ
-zeros zero = []
-zeros (suc n) = 0 ∷ zeros n
-
-pub zeros_at : (n k : ℕ) → get_or (zeros n) k 0 ≡ 0
-zeros_at zero k = refl
-zeros_at (suc n) zero = refl
-zeros_at (suc n) (suc k) = zeros_at n k
 
 -- words that are the same part by part
 pub same_words : (words : Words) (node links state : ℕ → ℕ) (body : ℕ → ℕ → ℕ) → node ≡ words.node → links ≡ words.links → body ≡ words.body → state ≡ words.state

@@ -1,13 +1,10 @@
 -- The part of the table in which an index lies.
-use Rattle.std.proofs.Common.{◌≡◌, ℕ, ◌-◌, ◌/◌, ◌%◌, ◌<◌, ◌≤◌, false, ◌∙◌, arith}
-use Rattle.std.specs.Prelude.{◌==◌}
-use Rattle.std.proofs.lemmas.Bool.{cond-true, cond-false, lt-ltb, le-ltb, ne_eqb}
+use Rattle.std.proofs.Common.{◌≡◌, ℕ, ◌-◌, ◌/◌, ◌%◌, ◌<◌, ◌≤◌, ◌∙◌, arith}
+use Rattle.std.proofs.lemmas.Bool.{cond-true, cond-false, lt-ltb, le-ltb}
 use Rattle.core_steps.specs.declared.sizes.TheConstants.{FIRST_RECORD_WORD, FIRST_STATE_WORD}
 use Rattle.core_steps.specs.Cells.{Words, Body, State, with_word, links_index, body_index, state_index}
+use Rattle.core_steps.proofs.Layouts.{not_first}
 use Rattle.core_machine.specs.Tables.{with_word_at}
-
-not_first : (n : ℕ) → 0 < n → (n == 0) ≡ false
-not_first n some = ne_eqb n 0 (λ e. omega arith)
 
 pub in_body : (words : Words) (index x : ℕ) → FIRST_RECORD_WORD ≤ index → index < FIRST_STATE_WORD → with_word_at words index x ≡ with_word words (Body ((index - FIRST_RECORD_WORD) / 5) ((index - FIRST_RECORD_WORD) % 5)) x
 in_body words index x least most =

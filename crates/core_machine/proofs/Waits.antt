@@ -1,23 +1,24 @@
 -- A take is done where no other seat holds the node.
 use mathlib.Core.Path.{fun_ext}
-use Rattle.std.proofs.Common.{◌≡◌, ℕ, suc, ◌<◌, ◌⊎◌, Bool, true, false, List, [], ◌∷◌, refl, sym, ap, ◌∙◌, subst, inl, inr, Option, Some, None, arith}
+use Rattle.std.proofs.Common.{◌≡◌, ℕ, suc, ◌<◌, Bool, true, false, List, refl, sym, ap, ◌∙◌, subst, inl, inr, Option, Some, None, arith}
 use Rattle.std.specs.Prelude.{◌==◌}
 use Rattle.std.proofs.lemmas.Bool.{cases_Bool, true≢false, cond-true, cond-false, eqb-true}
-use Rattle.entity_recs.specs.declared.effect.Effect.{Effect}
+use Rattle.std.proofs.lemmas.Option.{same_Some}
 use Rattle.entity_recs.specs.Commands.{Command}
 use Rattle.entity_recs.specs.Worlds.{World}
 use Rattle.entity_recs.specs.Histories.{Item}
 use Rattle.core_steps.specs.declared.step.StepKind.{StepKind}
 use Rattle.core_steps.specs.declared.step.StepKind.TheVariants.{Take}
 use Rattle.core_steps.specs.Cells.{Words, put}
-use Rattle.core_steps.specs.Views.{Fixed, Store, Clear, Put, Link, Point, Idle, Owning, Taking, Checking, Entering, Entered, Loading, Leaving, Sensing, Resolving, Claiming, Storing, Releasing, Returning, Yielding, View, holds, record_read, write_nodes, effect_loaded}
-use Rattle.core_steps.specs.Steps.{Core, first, first_yield, next_give, next_node_at, refuse_node, is_taking, view_after_refusal}
-use Rattle.core_steps.specs.Machine.{Machine, Next, Begin, LoadOwn, LoadAgain, TakeNode, ClaimNode, ReadList, ReadPlayer, ReadState, CommitMove, StoreWord, GiveNode, YieldNode, YieldCount, next_at, next_of, quitting, resolving, beginning, committing, giving, kind_of, kind_of_store, word_of_next, core_after, machine_after, MachineStands}
+use Rattle.core_steps.specs.Views.{Fixed, Store, Clear, Put, Link, Idle, View, holds}
+use Rattle.core_steps.specs.Steps.{Core, first_yield, refuse_node, is_taking, view_after_refusal}
+use Rattle.core_steps.specs.Machine.{Machine, Next, Begin, LoadOwn, LoadAgain, TakeNode, ClaimNode, ReadList, ReadPlayer, ReadState, CommitMove, StoreWord, GiveNode, YieldNode, YieldCount, next_at, next_of, quitting, beginning, kind_of, kind_of_store, word_of_next, core_after, machine_after, MachineStands}
 use Rattle.core_steps.specs.Calls.{node_taken, IsWaiting}
 use Rattle.core_steps.proofs.Puts.{put_same}
 use Rattle.core_steps.proofs.AtTakes.{seat_at_a_take_may_give_up}
 use Rattle.core_steps.proofs.OneWord.{refused_takes_change_their_record}
-use Rattle.core_steps.proofs.Waiting.{holder_below, holder_is_below, comes_next}
+use Rattle.core_steps.proofs.Waiting.{holder_below, holder_is_below, comes_next, cases_Option}
+use Rattle.core_steps.proofs.Nexts.{same_taken, taken_is_next}
 use Rattle.core_machine.specs.Stepping.{is_done}
 use Rattle.core_machine.proofs.StepsMade.{one_comes}
 
@@ -28,15 +29,12 @@ record IsTake (words : Words) (view : View) (next : Next) (node : ℕ) : Type 0 
   kind : kind_of next ≡ Take
   word : word_of_next words view next ≡ words.node node
 
-same_some : (a b : ℕ) → Some a ≡ Some b → a ≡ b
-same_some a b e = cc
-
 take_is : (words : Words) (view : View) (next : Next) (node : ℕ) → node_taken next ≡ Some node → IsTake words view next node
 take_is words view (Begin c) node e = cc
 take_is words view LoadOwn node e = cc
 take_is words view LoadAgain node e = cc
-take_is words view (TakeNode n) node e = record { kind = refl; word = ap words.node (same_some n node e) }
-take_is words view (ClaimNode effect n) node e = record { kind = refl; word = ap words.node (same_some n node e) }
+take_is words view (TakeNode n) node e = record { kind = refl; word = ap words.node (same_Some n node e) }
+take_is words view (ClaimNode effect n) node e = record { kind = refl; word = ap words.node (same_Some n node e) }
 take_is words view (ReadList n plan) node e = cc
 take_is words view (ReadPlayer n part slot players plan) node e = cc
 take_is words view (ReadState id ids) node e = cc
@@ -72,62 +70,13 @@ other_done YieldCount found e = refl
 none_is_some : {R : Type 0} (node : ℕ) → None ≡ Some node → R
 none_is_some node e = cc
 
-taken_of : (a next : Next) (node : ℕ) → Some a ≡ Some next → node_taken next ≡ Some node → node_taken a ≡ Some node
-taken_of a next node e taken = let same : a ≡ next = cc in ap node_taken same ∙ taken
-
 taken_begun : {R : Type 0} (given : Option Command) (next : Next) (node : ℕ) → beginning given ≡ Some next → node_taken next ≡ Some node → R
 taken_begun None next node e taken = cc
-taken_begun (Some c) next node e taken = none_is_some node (taken_of (Begin c) next node e taken)
-
-taken_committed : {R : Type 0} (effect : Option Effect) (nodes : List ℕ) (next : Next) (node : ℕ) → committing effect nodes ≡ Some next → node_taken next ≡ Some node → R
-taken_committed None nodes next node e taken = cc
-taken_committed (Some effect) nodes next node e taken = none_is_some node (taken_of (CommitMove effect nodes) next node e taken)
-
-taken_given : {R : Type 0} (given : Option ℕ) (next : Next) (node : ℕ) → giving given ≡ Some next → node_taken next ≡ Some node → R
-taken_given None next node e taken = cc
-taken_given (Some n) next node e taken = none_is_some node (taken_of (GiveNode n) next node e taken)
+taken_begun (Some c) next node e taken = none_is_some node (same_taken (Begin c) next node e taken)
 
 taken_quitting : {R : Type 0} (yields : Option ℕ) (next : Next) (node : ℕ) → Some (quitting yields) ≡ Some next → node_taken next ≡ Some node → R
-taken_quitting None next node e taken = none_is_some node (taken_of YieldCount next node e taken)
-taken_quitting (Some n) next node e taken = none_is_some node (taken_of (YieldNode n) next node e taken)
-
-taken_resolved : (effect : Effect) (nodes : List ℕ) (node : ℕ) → node_taken (resolving effect nodes) ≡ Some node → first nodes ≡ Some node
-taken_resolved effect [] node taken = taken
-taken_resolved effect (n ∷ nodes) node taken = taken
-
-taken_at : (F : Fixed) (view : View) (given : Option Command) (point : Point) (next : Next) (node : ℕ) → next_at F view given point ≡ Some next → node_taken next ≡ Some node
-    → next_node_at F view point ≡ Some node
-taken_at F view given Idle next node e taken = taken_begun given next node e taken
-taken_at F view given Owning next node e taken = taken_of LoadOwn next node e taken
-taken_at F view given (Taking got []) next node e taken = cc
-taken_at F view given (Taking got (leaf ∷ rest)) next node e taken = taken_of (TakeNode leaf) next node e taken
-taken_at F view given Checking next node e taken = taken_of LoadAgain next node e taken
-taken_at F view given (Entering n plan) next node e taken = taken_of (TakeNode n) next node e taken
-taken_at F view given (Entered n plan) next node e taken = taken_of (ReadList n plan) next node e taken
-taken_at F view given (Loading n part [] plan) next node e taken = cc
-taken_at F view given (Loading n part (slot ∷ players) plan) next node e taken = taken_of (ReadPlayer n part slot players plan) next node e taken
-taken_at F view given (Leaving n plan) next node e taken = taken_of (GiveNode n) next node e taken
-taken_at F view given (Sensing []) next node e taken = cc
-taken_at F view given (Sensing (id ∷ ids)) next node e taken = taken_of (ReadState id ids) next node e taken
-taken_at F view given Resolving next node e taken =
-    let effect = effect_loaded F view in
-    let writes = write_nodes F (record_read view.cmd.slot view.again) effect in
-    taken_resolved effect writes node (taken_of (resolving effect writes) next node e taken)
-taken_at F view given (Claiming got []) next node e taken = taken_committed view.effect got next node e taken
-taken_at F view given (Claiming got (n ∷ rest)) next node e taken = taken_of (TakeNode n) next node e taken
-taken_at F view given (Storing nodes []) next node e taken = cc
-taken_at F view given (Storing nodes (store ∷ stores)) next node e taken = taken_of (StoreWord nodes store stores) next node e taken
-taken_at F view given (Releasing nodes) next node e taken = taken_given (next_give (Releasing nodes) view.wanted) next node e taken
-taken_at F view given (Returning leaves) next node e taken = taken_given (next_give (Returning leaves) view.wanted) next node e taken
-taken_at F view given (Yielding nodes leaves) next node e taken = taken_given (next_give (Yielding nodes leaves) view.wanted) next node e taken
-
-record IsSomeNode (o : Option ℕ) : Type 0 where
-  node : ℕ
-  is : o ≡ Some node
-
-cases_node : (o : Option ℕ) → (o ≡ None) ⊎ IsSomeNode o
-cases_node None = inl refl
-cases_node (Some node) = inr (record { node = node; is = refl })
+taken_quitting None next node e taken = none_is_some node (same_taken YieldCount next node e taken)
+taken_quitting (Some n) next node e taken = none_is_some node (same_taken (YieldNode n) next node e taken)
 
 put_self : {A : Type 0} (i : ℕ) (a : A) (f : ℕ → A) → f i ≡ a → put i a f ≡ f
 put_self i a f is = fun_ext (λ j. elim (cases_Bool (j == i)) [
@@ -193,7 +142,7 @@ module _ (F : Fixed) (m : Machine) (history : List Item) (now : World) (n : ℕ)
   not_itself : (node j : ℕ) → node_taken next ≡ Some node → holds F (m.core.view j).point (m.core.view j).wanted node ≡ true → (j == n) ≡ true → ⊥
   not_itself node j taken held same =
       let mine = subst (λ (k : ℕ). holds F (m.core.view k).point (m.core.view k).wanted node ≡ true) (eqb-true j n same) held in
-      let later = (comes_next F m.core history now n node view.point is.core refl (taken_at F view (m.given n) view.point next node (comes_at node taken) taken)).before node mine in
+      let later = (comes_next F m.core history now n node view.point is.core refl (taken_is_next F view (m.given n) view.point next node (comes_at node taken) taken)).before node mine in
       omega (arith, later)
 
   done_at : (node : ℕ) → node_taken next ≡ Some node → m.core.words.node node ≡ 0 → is_done (kind_of next) (word_of_next m.core.words view next) ≡ true
@@ -203,7 +152,7 @@ module _ (F : Fixed) (m : Machine) (history : List Item) (now : World) (n : ℕ)
 
   -- a step that doesn't wait is done
   pub free_is_done : (IsWaiting F m n → ⊥) → is_done (kind_of next) (word_of_next m.core.words view next) ≡ true
-  free_is_done free = elim (cases_node (node_taken next)) [
+  free_is_done free = elim (cases_Option (node_taken next)) [
     | inl none ↦ other_done next _ none
     | inr some ↦ elim (holder_below F m.core some.node (m.core.view 0).made) [
       | inl found ↦ elim (cases_Bool (found.holder == n)) [
@@ -217,7 +166,7 @@ module _ (F : Fixed) (m : Machine) (history : List Item) (now : World) (n : ℕ)
   -- a step that waits changes the record of the refused take alone
   pub waiting_refused : (node : ℕ) → node_taken next ≡ Some node → IsWaiting F m n → machine_after F m n next ≡ record m { core = refuse_node m.core n node }
   waiting_refused node taken waits =
-      let same = same_some waits.node node (sym (waits_taken waits) ∙ taken) in
+      let same = same_Some waits.node node (sym (waits_taken waits) ∙ taken) in
       let held = zero_test (m.core.words.node waits.node) (held_word_there waits) in
       same_parts _ _ _ _ _ _ (refused_takes_change_their_record F m n node next taken (subst (λ (v : ℕ). (m.core.words.node v == 0) ≡ false) same held))
       (put_self n None m.given (none_given node taken (m.given n) refl))
@@ -230,7 +179,7 @@ module _ (F : Fixed) (m : Machine) (history : List Item) (now : World) (n : ℕ)
 
   -- a step that isn't done leaves its seat where it may give up
   pub may_give_up : is_done (kind_of next) (word_of_next m.core.words view next) ≡ false → is_taking ((core_after F m.core n next).view n).point ≡ true
-  may_give_up refused = elim (cases_node (node_taken next)) [
+  may_give_up refused = elim (cases_Option (node_taken next)) [
     | inl none ↦ absurd (true≢false (sym (other_done next (word_of_next m.core.words view next) none) ∙ refused))
     | inr some ↦
         ap (λ (core : Core). is_taking (core.view n).point) (refused_takes_change_their_record F m n some.node next some.is (refused_at some.node some.is refused))

@@ -2,18 +2,16 @@
 use mathlib.Core.Path.{fun_ext}
 use Rattle.std.proofs.Common.{◌≡◌, ℕ, ◌+◌, ◌-◌, ◌/◌, ◌%◌, ◌<◌, Bool, true, false, if◌then◌else◌, refl, sym, ap, ◌∙◌, inl, inr, arith}
 use Rattle.std.specs.Prelude.{◌==◌}
-use Rattle.std.proofs.lemmas.Bool.{cases_Bool, cond-true, cond-false, lt-ltb, le-ltb, ne_eqb, eqb-true}
+use Rattle.std.proofs.lemmas.Bool.{cases_Bool, cond-true, cond-false, lt-ltb, le-ltb, eqb-true}
 use Rattle.core_steps.specs.declared.sizes.TheConstants.{TABLE_NODES}
 use Rattle.core_steps.specs.Cells.{Words, Cell, Body, State, put, word_in, with_word, cell_index, cell_of, node_index, links_index, body_index, state_index}
 use Rattle.core_steps.specs.Views.{Fixed, Store, Clear, Put, Link}
 use Rattle.core_steps.specs.Steps.{Core, words_after_store}
 use Rattle.core_steps.specs.Machine.{Next, Begin, LoadOwn, LoadAgain, TakeNode, ClaimNode, ReadList, ReadPlayer, ReadState, CommitMove, StoreWord, GiveNode, YieldNode, YieldCount, core_after, index_of, index_of_store, word_of_next, word_of_store}
 use Rattle.core_steps.proofs.TableWords.{CellIsIn, StoreIsIn, NextIsIn}
+use Rattle.core_steps.proofs.Layouts.{not_first}
 use Rattle.core_machine.specs.Tables.{with_word_at}
 use Rattle.core_seats.specs.Going.{word_left, word_stored}
-
-not_first : (n : ℕ) → 0 < n → (n == 0) ≡ false
-not_first n some = ne_eqb n 0 (λ e. omega arith)
 
 -- ---- a word put at its index
 

@@ -1,12 +1,13 @@
 -- What a step of the core changes: one seat's view, and one word.
-use Rattle.std.proofs.Common.{◌≡◌, ℕ, false, refl, ap, ◌∙◌, inl, inr}
+use Rattle.std.proofs.Common.{◌≡◌, ℕ, refl, inl, inr}
 use Rattle.std.specs.Prelude.{◌==◌}
 use Rattle.std.proofs.lemmas.Bool.{cases_Bool}
-use Rattle.core_steps.specs.Cells.{Words, Cell, Body, State, put, word_in, with_word}
+use Rattle.core_steps.specs.Cells.{Words}
 use Rattle.core_steps.specs.Views.{Fixed, Store, Clear, Put, Link}
 use Rattle.core_steps.specs.Steps.{Core, words_after_store}
 use Rattle.core_steps.specs.Machine.{Next, Begin, LoadOwn, LoadAgain, TakeNode, ClaimNode, ReadList, ReadPlayer, ReadState, CommitMove, StoreWord, GiveNode, YieldNode, YieldCount, core_after, word_of_next, word_of_store}
-use Rattle.core_steps.proofs.Puts.{put_same, put_other}
+use Rattle.core_steps.proofs.Puts.{put_same}
+use Rattle.core_steps.proofs.Stores.{word_same}
 use Rattle.core_seats.specs.Going.{view_found, word_stored, word_left}
 
 -- the seat's own view after its step
@@ -28,31 +29,9 @@ view_here F core i (GiveNode node) = put_same i _ core.view
 view_here F core i (YieldNode node) = put_same i _ core.view
 view_here F core i YieldCount = put_same i _ core.view
 
--- the views of the other seats stay
-pub view_there : (F : Fixed) (core : Core) (i j : ℕ) (next : Next) → (j == i) ≡ false → (core_after F core i next).view j ≡ core.view j
-view_there F core i j (Begin c) other = put_other i j _ core.view other
-view_there F core i j LoadOwn other = put_other i j _ core.view other
-view_there F core i j LoadAgain other = put_other i j _ core.view other
-view_there F core i j (TakeNode node) other =
-    elim (cases_Bool (core.words.node node == 0)) [ inl e ↦ rw e (put_other i j _ core.view other) | inr e ↦ rw e (put_other i j _ core.view other) ]
-view_there F core i j (ClaimNode e node) other =
-    elim (cases_Bool (core.words.node node == 0)) [ inl e ↦ rw e (put_other i j _ core.view other) | inr e ↦ rw e (put_other i j _ core.view other) ]
-view_there F core i j (ReadList node plan) other = put_other i j _ core.view other
-view_there F core i j (ReadPlayer node part slot players plan) other = put_other i j _ core.view other
-view_there F core i j (ReadState id ids) other = put_other i j _ core.view other
-view_there F core i j (CommitMove e nodes) other = put_other i j _ core.view other
-view_there F core i j (StoreWord nodes store stores) other = put_other i j _ core.view other
-view_there F core i j (GiveNode node) other = put_other i j _ core.view other
-view_there F core i j (YieldNode node) other = put_other i j _ core.view other
-view_there F core i j YieldCount other = put_other i j _ core.view other
-
-cell_put : (words : Words) (cell : Cell) (x : ℕ) → word_in (with_word words cell x) cell ≡ x
-cell_put words (Body slot k) x = ap (λ (f : ℕ → ℕ). f k) (put_same slot (put k x (words.body slot)) words.body) ∙ put_same k x (words.body slot)
-cell_put words (State id) x = put_same id x words.state
-
 store_put : (words : Words) (slot : ℕ) (store : Store) → word_of_store (words_after_store slot store words) store ≡ word_stored slot store (word_of_store words store)
 store_put words slot (Clear node) = put_same node _ words.links
-store_put words slot (Put cell x) = cell_put words cell x
+store_put words slot (Put cell x) = word_same words cell x
 store_put words slot (Link node) = put_same node _ words.links
 
 -- the word after the step

@@ -16,15 +16,13 @@ use Rattle.std.proofs.lemmas.List.Kept.{AllPairs-from_increasing}
 use Rattle.arena_geo.specs.Bounds.{Bounds}
 use Rattle.arena_geo.specs.Regions.{touches_region}
 use Rattle.entity_recs.specs.declared.limits.TheConstants.{IDS}
-use Rattle.entity_recs.specs.declared.kind.Kind.{Kind}
-use Rattle.entity_recs.specs.declared.kind.Kind.TheVariants.{Player, Ammo, Gem, Teleporter, Goal, Lift}
 use Rattle.entity_recs.specs.declared.rec.Rec.{Rec}
 use Rattle.entity_recs.specs.declared.effect.NewState.{NewState}
 use Rattle.entity_recs.specs.Bodies.{abs_of}
-use Rattle.entity_recs.specs.Records.{IsIdOf}
 use Rattle.entity_recs.specs.Actions.{HasValidity}
 use Rattle.core_steps.specs.Stands.{IsStart}
 use Rattle.entity_recs.specs.Worlds.{record_with}
+use Rattle.entity_recs.proofs.Ids.{id_in}
 use Rattle.core_steps.specs.Views.{Fixed, PlayerRead, player_of, player_at, thing_of, state_at, record_loaded}
 use Rattle.core_seats.specs.NearRecords.{is_touched_thing, loaded_of, touching_one, near_one}
 
@@ -108,14 +106,6 @@ near_are F region slot others states (r ∷ rs) found =
 
 -- ---- how many records there are at most
 
-pub id_small : (k : Kind) (id : ℕ) → IsIdOf k id → id < IDS
-id_small Player id is = omega arith
-id_small Ammo id is = omega (arith, is.most)
-id_small Gem id is = omega (arith, is.most)
-id_small Teleporter id is = omega (arith, is.most)
-id_small Goal id is = omega (arith, is.most)
-id_small Lift id is = omega (arith, is.most)
-
 at_least : (xs : List ℕ) (i : ℕ) → IsStrictlyIncreasing xs → i < length xs → i ≤ get_or xs i 0
 at_least xs zero rising below = omega arith
 at_least xs (suc i) rising below =
@@ -137,7 +127,7 @@ few_ids F validity start = elim (cases_Bool (nat_le (length F.start.ids) IDS)) [
       let all_taken = All-get_or (λ (r : Rec). F.takes r ≡ true) (map F.start.record_of F.start.ids) IDS (F.start.record_of 0) (omega (arith, sized)) start.taken in
       let taken : F.takes (F.start.record_of id) ≡ true = ap F.takes (sym (get_or-map F.start.record_of F.start.ids IDS 0)) ∙ all_taken in
       let own : (F.start.record_of id).id ≡ id = All-get_or (λ (n : ℕ). (F.start.record_of n).id ≡ n) F.start.ids IDS 0 there start.own in
-      let small = id_small (F.start.record_of id).kind (F.start.record_of id).id (validity.keepable (F.start.record_of id) taken).bounds.id in
+      let small = id_in (F.start.record_of id).kind (F.start.record_of id).id (validity.keepable (F.start.record_of id) taken).bounds.id in
       absurd (omega arith)
 ]
 

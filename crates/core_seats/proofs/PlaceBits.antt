@@ -1,6 +1,6 @@
 -- Bits by place, in a list of words.
-use Rattle.std.proofs.Common.{◌≡◌, ◌≢◌, ℕ, ◌+◌, ◌-◌, ◌*◌, ◌/◌, ◌%◌, ◌^◌, ◌<◌, ◌≤◌, ◌==◌, true, false, List, length, get_or, set, bit_and, bit_or, sym, ap, ◌∙◌, inl, inr, arith}
-use Rattle.std.proofs.lemmas.Bool.{cases_eq, cases_lt, true≢false, false≢true}
+use Rattle.std.proofs.Common.{◌≡◌, ◌≢◌, ℕ, ◌+◌, ◌-◌, ◌/◌, ◌%◌, ◌^◌, ◌<◌, ◌≤◌, ◌==◌, true, false, List, length, get_or, set, bit_and, bit_or, sym, ap, ◌∙◌, inl, inr, arith}
+use Rattle.std.proofs.lemmas.Bool.{cases_eq, cases_lt, true≢false, false≢true, and_from, or_left, or_right}
 use Rattle.std.proofs.lemmas.List.{get_or-set_same, get_or-set_other, get_or_past}
 use Rattle.std.proofs.lemmas.Nat.{pow-add}
 use Rattle.std.proofs.lemmas.Nat.Bits.{bit_at-zero, bit_at_above}
@@ -8,7 +8,7 @@ use Rattle.std.proofs.Math.Nat.{div-div-eq-div-mul}
 use Rattle.areanode.specs.Words.{has_bit}
 use Rattle.core_seats.specs.ThingBits.{has_place, KeepsPlaces, NoBitFrom, IsNextBit}
 use Rattle.core_seats.proofs.SlotLists.{both_bits}
-use Rattle.core_seats.proofs.ThingPlaces.{either_bits, either_left, either_right, both_true}
+use Rattle.core_seats.proofs.ThingPlaces.{either_bits}
 
 -- ---- a word is put
 
@@ -38,13 +38,13 @@ place_within bits place there = elim (cases_lt (place / 64) (length bits)) [
 -- ---- two lists of words
 
 and_has : (a b i : ℕ) → has_bit a i ≡ true → has_bit b i ≡ true → has_bit (bit_and a b) i ≡ true
-and_has a b i here there = both_bits a b i ∙ both_true (has_bit a i) (has_bit b i) here there
+and_has a b i here there = both_bits a b i ∙ and_from (has_bit a i) (has_bit b i) here there
 
 pub or_has : (a b i : ℕ) → has_bit a i ≡ true → has_bit (bit_or a b) i ≡ true
-or_has a b i here = either_bits a b i ∙ either_left (has_bit a i) (has_bit b i) here
+or_has a b i here = either_bits a b i ∙ or_left (has_bit a i) (has_bit b i) here
 
 or_has_too : (a b i : ℕ) → has_bit b i ≡ true → has_bit (bit_or a b) i ≡ true
-or_has_too a b i there = either_bits a b i ∙ either_right (has_bit a i) (has_bit b i) there
+or_has_too a b i there = either_bits a b i ∙ or_right (has_bit a i) (has_bit b i) there
 
 -- the words so far have what both have, and the others what the first has
 abbrev pub AreBoth : List ℕ → List ℕ → List ℕ → ℕ → Type 0
@@ -107,6 +107,3 @@ next_bit_is word from bit small there none = record {
 pub record NoneYet (bits : List ℕ) (from at : ℕ) : Type 0 where
   pub least : from ≤ at
   pub none : (k : ℕ) → from ≤ k → k < at → has_place bits k ≡ false
-
-word_below : (at bit words : ℕ) → at < 64 * words → bit < 64 → at / 64 * 64 + bit < 64 * words
-word_below at bit words within small = omega (arith, within, small)

@@ -1,12 +1,11 @@
 -- What a sound view says of the step that comes next: what the action is asked, and that the lists have room.
-use Rattle.std.proofs.Common.{◌≡◌, ℕ, ◌+◌, ◌-◌, ◌<◌, ◌≤◌, ◌==◌, eqb, Bool, true, false, List, [], ◌∷◌, length, refl, sym, ap, ◌∙◌, subst, inl, inr, Some, arith}
+use Rattle.std.proofs.Common.{◌≡◌, ℕ, ◌+◌, ◌<◌, ◌≤◌, ◌==◌, true, List, ◌∷◌, length, refl, sym, ap, ◌∙◌, subst, inl, inr, Some, arith}
 use Rattle.std.specs.Prelude.{filter, not, ◌||◌, All}
-use Rattle.std.specs.List.{IsDistinct, AllByRecursion, list_any, range_with_len}
-use Rattle.std.proofs.lemmas.Bool.{cases_Bool, eq-eqb, eqb-true, ne_eqb, or_cases, or_left, or_right, false≢true}
+use Rattle.std.specs.List.{range_with_len}
+use Rattle.std.proofs.lemmas.Bool.{eq-eqb, eqb-true, or_cases, or_left}
 use Rattle.std.proofs.lemmas.List.{length-map, length-append}
 use Rattle.std.proofs.lemmas.List.FromFn.{length-range_with_len}
 use Rattle.std.proofs.lemmas.List.Elements.{All-from_recursion}
-use Rattle.std.proofs.lemmas.Map.Steps.{length-le_from_distinct_below}
 use Rattle.areanode.specs.Depths.{sizes_of_depth}
 use Rattle.areanode.specs.declared.sizes.TheConstants.{MOST_NODES}
 use Rattle.entity_recs.specs.declared.effect.Effect.{Effect}
@@ -16,32 +15,13 @@ use Rattle.core_steps.specs.Views.{Fixed, View, PlayerRead, Store, Point, Taking
 use Rattle.core_steps.specs.Stands.{AreDistinct, IsAt, IsUnder, IsTaking, IsClaiming, IsClaimingAfter, IsStoring}
 use Rattle.core_steps.specs.Machine.{slots_of, lists_ahead, states_ahead, SomeIsLeft}
 use Rattle.core_steps.proofs.Lists.{distinct_filter, has_filter}
-use Rattle.core_steps.proofs.Planned.{slots_without, gone, leaf_nodes_length}
+use Rattle.core_steps.proofs.Planned.{slots_without, gone, leaf_nodes_length, filter_few}
 use Rattle.core_steps.proofs.Runs.{all_from_has}
 use Rattle.core_steps.proofs.TreeNodes.{leaf_below}
+use Rattle.core_steps.proofs.Fitting.{few_below}
 use Rattle.core_seats.specs.Sound.{IsSound}
 
 -- ---- numbers that differ
-
-all_differ : (x : ℕ) (xs : List ℕ) → has xs x ≡ false → AllByRecursion (λ y. eqb x y ≡ false) xs
-all_differ x xs none = all_from_has (λ y. eqb x y ≡ false) xs (λ v there. ne_eqb x v (λ same. false≢true (sym none ∙ subst (λ (n : ℕ). has xs n ≡ true) (sym same) there)))
-
-distinct_as_std : (xs : List ℕ) → AreDistinct xs → IsDistinct eqb xs
-unfolding IsDistinct
-distinct_as_std [] is = tt
-distinct_as_std (x ∷ xs) is = (all_differ x xs is.0, distinct_as_std xs is.1)
-
-has_as_std : (q : ℕ) (xs : List ℕ) → list_any (eqb q) xs ≡ true → has xs q ≡ true
-has_as_std q [] there = absurd (false≢true there)
-has_as_std q (x ∷ xs) there =
-    elim (or_cases (eqb q x) (list_any (eqb q) xs) there) [
-      | inl head ↦ or_left _ _ (eq-eqb x q (sym (eqb-true q x head)))
-      | inr rest ↦ or_right _ _ (has_as_std q xs rest)
-    ]
-
--- there are at most n numbers below n, each once
-few_below : (n : ℕ) (xs : List ℕ) → AreDistinct xs → ((v : ℕ) → has xs v ≡ true → v < n) → length xs ≤ n
-few_below n xs is below = length-le_from_distinct_below xs n (distinct_as_std xs is) (λ q there. below q (has_as_std q xs there))
 
 -- the players but one below 64 are fewer than 64
 others_room : (slot : ℕ) (others : List PlayerRead) → slot < 64 → AreDistinct (slots_of others) → ((v : ℕ) → has (slots_of others) v ≡ true → v < 64)
@@ -56,12 +36,6 @@ others_room slot others own once below =
     let same = ap length (slots_without slot others) in
     let size = length-map (without_player slot others) (λ (read : PlayerRead). read.slot) in
     omega (arith, few, same, size)
-
-pub filter_few : (test : ℕ → Bool) (xs : List ℕ) → length (filter test xs) ≤ length xs
-filter_few test [] = omega arith
-filter_few test (x ∷ xs) =
-    let rest = filter_few test xs in
-    elim (cases_Bool (test x)) [ inl e ↦ rw e (omega arith) | inr e ↦ rw e (omega arith) ]
 
 writes_few : (F : Fixed) (a b : ℕ) → length (inner_of_two F a b) ≤ inner_nodes F
 writes_few F a b =

@@ -1,12 +1,11 @@
 -- Bits of a word of slots, set and cleared, and the place at which the things of the map begin.
-use Rattle.std.proofs.Common.{◌≡◌, ◌≢◌, ℕ, ◌+◌, ◌*◌, ◌^◌, ◌%◌, ◌<◌, ◌==◌, Bool, true, false, ◌||◌, List, [], ◌∷◌, length, drop, ◌++◌, map, refl, ap, sym, ◌∙◌, subst, inl, inr, arith, bit_or, w64}
+use Rattle.std.proofs.Common.{◌≡◌, ◌≢◌, ℕ, ◌*◌, ◌^◌, ◌%◌, ◌<◌, ◌==◌, Bool, true, false, ◌||◌, List, [], ◌∷◌, length, drop, map, refl, ap, sym, ◌∙◌, subst, inl, inr, arith, bit_or, w64}
 use Rattle.std.specs.Prelude.{filter, nat_lt, nat_le}
 use Rattle.std.specs.List.Sorted.{IsStrictlyIncreasing}
 use Rattle.std.proofs.lemmas.Bool.{cases_Bool, eqb-true, eq-eqb, ltb-true, ltb-false}
 use Rattle.std.proofs.lemmas.Nat.Bits.{bit_at_set_same, bit_at_set_other}
 use Rattle.entity_recs.specs.declared.rec.Rec.{Rec}
 use Rattle.areanode.specs.Words.{has_bit}
-use Rattle.core_steps.specs.Views.{has}
 use Rattle.core_seats.proofs.KeptNear.{IsBelowAll, AreRising, are_rising}
 
 differ : (a b : ℕ) → (a == b) ≡ false → a ≢ b
@@ -53,16 +52,6 @@ pub things_after_players : (rs : List Rec) → IsStrictlyIncreasing (map (λ (r 
 things_after_players rs rising = after_low rs (are_rising (map (λ (r : Rec). r.id) rs) rising)
 
 -- ---- one record more
-
-or_other : (a b c : Bool) → (a || (b || c)) ≡ (b || (a || c))
-or_other true true c = refl
-or_other true false c = refl
-or_other false b c = refl
-
-has_last : (rs : List Rec) (r : Rec) (slot : ℕ)
-    → has (map (λ (q : Rec). q.id) (rs ++ r ∷ [])) slot ≡ ((r.id == slot) || has (map (λ (q : Rec). q.id) rs) slot)
-has_last [] r slot = refl
-has_last (x ∷ rs) r slot = ap (λ (b : Bool). (x.id == slot) || b) (has_last rs r slot) ∙ or_other (x.id == slot) (r.id == slot) (has (map (λ (q : Rec). q.id) rs) slot)
 
 pub no_bit : (i : ℕ) → i < 64 → has_bit 0 i ≡ false
 no_bit i below = grind arith

@@ -7,6 +7,7 @@ use Rattle.std.specs.List.Sorted.{IsStrictlyIncreasing}
 use Rattle.std.proofs.lemmas.Bool.{cases_Bool, true≢false, eqb-true, eq-eqb, ne_eqb, lt-ltb, ltb-true, ltb-false, false≢true, cond-false}
 use Rattle.std.proofs.lemmas.Nat.Bits.{bit_at-lt, bit_at_and, bit_at-trailing_zeros, bit_at_clear_same, bit_at_clear_other}
 use Rattle.std.proofs.lemmas.Nat.{and_le_l}
+use Rattle.std.proofs.Math.Bool.{and-false, and-true}
 use Rattle.arena_geo.specs.Bounds.{Bounds}
 use Rattle.arena_geo.specs.Regions.{touches_region}
 use Rattle.entity_recs.specs.declared.rec.Rec.{Rec}
@@ -29,23 +30,15 @@ bit_first n some small =
 differ : (a b : ℕ) → (a == b) ≡ false → a ≢ b
 differ a b other e = let same = eq-eqb a b e in cc
 
-and_false : (b : Bool) → (b && false) ≡ false
-and_false true = refl
-and_false false = refl
-
-and_true : (b : Bool) → (b && true) ≡ b
-and_true true = refl
-and_true false = refl
-
 pub bit_cleared : (n k i : ℕ) → k < 64 → i < 64 → has_bit (bit_and n (bit_not w64 (1 * 2 ^ k % 2 ^ 64))) i ≡ (has_bit n i && not (i == k))
 bit_cleared n k i below within = elim (cases_Bool (i == k)) [
   | inl same ↦
       let e : i ≡ k = eqb-true i k same in
       ap (λ (j : ℕ). has_bit (bit_and n (bit_not w64 (1 * 2 ^ k % 2 ^ 64))) j) e ∙ ap (λ (b : ℕ). b == 1) (bit_at_clear_same w64 n k below)
-      ∙ sym (ap (λ (b : Bool). has_bit n i && not b) same ∙ and_false (has_bit n i))
+      ∙ sym (ap (λ (b : Bool). has_bit n i && not b) same ∙ and-false (has_bit n i))
   | inr other ↦
       ap (λ (b : ℕ). b == 1) (bit_at_clear_other w64 n k below i within (differ i k other))
-      ∙ sym (ap (λ (b : Bool). has_bit n i && not b) other ∙ and_true (has_bit n i))
+      ∙ sym (ap (λ (b : Bool). has_bit n i && not b) other ∙ and-true (has_bit n i))
 ]
 
 module _ (f g : ℕ → Bool) (k : ℕ) (rest_is : (i : ℕ) → i < 64 → g i ≡ (f i && not (i == k))) where
@@ -53,7 +46,7 @@ module _ (f g : ℕ → Bool) (k : ℕ) (rest_is : (i : ℕ) → i < 64 → g i 
   above : (s n : ℕ) → k < s → s + n ≤ 64 → filter f (range_with_len s n) ≡ filter g (range_with_len s n)
   above s zero high fits = refl
   above s (suc n) high fits =
-      let same : g s ≡ f s = rest_is s (omega arith) ∙ ap (λ (b : Bool). f s && not b) (ne_eqb s k (λ e. omega (arith, e))) ∙ and_true (f s) in
+      let same : g s ≡ f s = rest_is s (omega arith) ∙ ap (λ (b : Bool). f s && not b) (ne_eqb s k (λ e. omega (arith, e))) ∙ and-true (f s) in
       rw same (ap (λ (ns : List ℕ). if f s then s ∷ ns else ns) (above (s + 1) n (omega arith) (omega arith)))
 
   from_lowest : (s n : ℕ) → s ≤ k → k < s + n → s + n ≤ 64 → f k ≡ true → ((i : ℕ) → i < k → f i ≡ false)
@@ -63,7 +56,7 @@ module _ (f g : ℕ → Bool) (k : ℕ) (rest_is : (i : ℕ) → i < 64 → g i 
     | inl same ↦
         let e : s ≡ k = eqb-true s k same in
         let is : f s ≡ true = ap f e ∙ there in
-        let not : g s ≡ false = rest_is s (omega arith) ∙ ap (λ (b : Bool). f s && not b) same ∙ and_false (f s) in
+        let not : g s ≡ false = rest_is s (omega arith) ∙ ap (λ (b : Bool). f s && not b) same ∙ and-false (f s) in
         rw (is, not) (ap (λ (m : ℕ). m ∷ filter f (range_with_len (s + 1) n)) e ∙ ap (λ (ns : List ℕ). k ∷ ns) (above (s + 1) n (omega (arith, e)) (omega arith)))
     | inr other ↦
         let apart = differ s k other in
@@ -265,7 +258,7 @@ module _ (region : List Bounds) (six : List (List ℕ)) (slots rest less k : ℕ
     | inl low ↦
         let within = ltb-true i 64 low in
         let both : (has_bit rest i && not (i == k)) ≡ true = sym (less_is i within) ∙ set in
-        let apart : i ≢ k = λ e. false≢true (sym (ap (λ (b : Bool). has_bit rest i && not b) (eq-eqb i k e) ∙ and_false (has_bit rest i)) ∙ both) in
+        let apart : i ≢ k = λ e. false≢true (sym (ap (λ (b : Bool). has_bit rest i && not b) (eq-eqb i k e) ∙ and-false (has_bit rest i)) ∙ both) in
         elim (cases_Bool (nat_lt i k)) [
           | inl before ↦ let lower = ltb-true i k before in absurd (false≢true (sym (ap (λ (b : Bool). b && not (i == k)) (first i lower)) ∙ both))
           | inr not ↦ let higher = ltb-false i k not in omega (arith, higher, apart)

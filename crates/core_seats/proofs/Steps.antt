@@ -130,3 +130,8 @@ none_left (x ∷ xs) none = let zeroth = eqb-true (length (x ∷ xs)) 0 none in 
 pub some_left : {A : Type 0} (xs : List A) → (length xs == 0) ≡ false → 0 < length xs
 some_left [] some = absurd (false≢true (sym some))
 some_left (x ∷ xs) some = omega arith
+
+-- where there is a next step, it is the one that is given
+pub some_next : (o : Option Next) → is_some o ≡ true → o ≡ Some (the_next o)
+some_next None e = absurd (false≢true e)
+some_next (Some next) e = refl

@@ -1,5 +1,5 @@
 -- Each step that is no refused take leaves fewer steps.
-use Rattle.std.proofs.Common.{◌≡◌, ℕ, suc, ◌+◌, ◌*◌, ◌<◌, ◌≤◌, Bool, true, false, List, [], ◌∷◌, ◌++◌, length, refl, sym, ap, subst, inl, inr, Option, Some, None, arith}
+use Rattle.std.proofs.Common.{◌≡◌, ℕ, suc, ◌+◌, ◌*◌, ◌<◌, ◌≤◌, true, false, List, [], ◌∷◌, ◌++◌, length, refl, sym, ap, subst, inl, inr, Option, Some, None, arith}
 use Rattle.std.specs.Prelude.{◌==◌, ◌&&◌, ◌||◌, not, filter, map, is_some}
 use Rattle.std.specs.List.{range_with_len}
 use Rattle.std.proofs.lemmas.Bool.{cases_Bool, true≢false, eqb-true, or_parts}
@@ -18,16 +18,10 @@ use Rattle.core_steps.specs.Steps.{sensing, visiting, loading, taking, storing, 
 use Rattle.core_steps.specs.Machine.{giving, resolving, committing}
 use Rattle.core_steps.specs.Stands.{AreDistinct}
 use Rattle.core_steps.proofs.Lists.{distinct_range}
-use Rattle.core_steps.proofs.Planned.{leaf_nodes_length, plan_length}
+use Rattle.core_steps.proofs.Planned.{leaf_nodes_length, plan_length, filter_few}
 use Rattle.core_seats.specs.Going.{view_found}
 use Rattle.core_seats.specs.Nexts.{next_resolved, next_point, the_next}
 use Rattle.core_seats.specs.StepsLeft.{VISIT, after_reading, after_visits, after_leaves, left_at, steps_left, is_served, IsCounting, ServedStepsLeaveFewer}
-
-filter_few : (test : ℕ → Bool) (xs : List ℕ) → length (filter test xs) ≤ length xs
-filter_few test [] = omega arith
-filter_few test (x ∷ xs) =
-    let rest = filter_few test xs in
-    elim (cases_Bool (test x)) [ inl e ↦ rw e (omega arith) | inr e ↦ rw e (omega arith) ]
 
 -- ---- what is left at the points that a step leads to
 

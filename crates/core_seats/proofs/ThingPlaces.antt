@@ -1,51 +1,31 @@
 -- The strips of things miss none of those that touch a region.
-use Rattle.std.proofs.Common.{◌≡◌, ℕ, zero, suc, ◌+◌, ◌-◌, ◌/◌, ◌%◌, ◌^◌, ◌<◌, ◌≤◌, min, Bool, true, false, ◌&&◌, ◌||◌, List, [], ◌∷◌, ◌++◌, length, take, get_or, bit_or, ℤ, ◌≤ℤ◌, ◌-ℤ◌, unsigned_abs, refl, sym, ap, ◌∙◌, subst, arith, inl, inr, max, ◌==◌, w32, w64}
-use Rattle.std.proofs.Math.Nat.{div-mul-le_self}
+use Rattle.std.proofs.Common.{◌≡◌, ℕ, zero, suc, ◌+◌, ◌-◌, ◌/◌, ◌%◌, ◌^◌, ◌<◌, ◌≤◌, min, Bool, true, false, ◌||◌, List, [], ◌∷◌, ◌++◌, length, take, get_or, bit_or, ℤ, ◌≤ℤ◌, ◌-ℤ◌, unsigned_abs, refl, sym, ap, ◌∙◌, subst, arith, inl, inr, max, ◌==◌, w32, w64}
 use Rattle.std.specs.Int.{bit_at, int_max}
-use Rattle.std.proofs.lemmas.Nat.{pow_pos, le-div}
 use Rattle.std.proofs.lemmas.Nat.Bits.{bit_at-lt, bit_at_or}
 use mir.Val.{to_z, of_z}
-use Rattle.std.proofs.lemmas.Int.{ints, to_z-of_z, fits_signed_from_abs}
+use Rattle.std.proofs.lemmas.Int.{to_z-of_z, fits_signed_from_abs}
 use Rattle.arena_geo.specs.declared.vec3.Vec3.{Vec3}
 use Rattle.arena_geo.specs.Vectors.{IsNear}
-use Rattle.std.proofs.lemmas.Bool.{cases_Bool, cases_lt, false≢true}
+use Rattle.std.proofs.lemmas.Bool.{cases_Bool, cases_lt}
 use Rattle.std.proofs.lemmas.List.{take_more}
 use Rattle.arena_geo.specs.Bounds.{Bounds, IsOrdered}
 use Rattle.arena_geo.specs.Boxes.{touches_on, touches}
 use Rattle.arena_geo.specs.Regions.{touches_region}
 use Rattle.arena_geo.proofs.Containment.{three_pass}
+use Rattle.arena_geo.proofs.Strips.{shr-mono, past-mono, min-mono, read_x, read_y}
 use Rattle.entity_recs.specs.declared.rec.Rec.{Rec}
 use Rattle.entity_recs.specs.Bodies.{abs_of}
 use Rattle.areanode.specs.Words.{has_bit}
+use Rattle.areanode.proofs.LeafAreas.{begins_before, ends_after}
 use Rattle.core_seats.specs.declared.strips.Strips.{Strips}
 use Rattle.core_seats.specs.declared.strips.ThingIndex.{ThingIndex}
 use Rattle.core_seats.specs.declared.strips.TheConstants.{STRIPS}
 use Rattle.core_seats.specs.ThingBits.{has_place, KeepsPlaces}
 use Rattle.core_seats.specs.ThingStrips.{strip_of, IsInStrips, KeepsStrips, KeepsIndex, HasThing, HasThings}
 
-shr-mono : (a b k : ℕ) → a ≤ b → a / 2 ^ k ≤ b / 2 ^ k
-shr-mono a b k less = le-div (a / 2 ^ k) b (2 ^ k) (pow_pos k) (omega (arith, less, div-mul-le_self a (2 ^ k)))
-
-past-mono : (from a b : ℤ) → a ≤ℤ b → unsigned_abs (int_max a from -ℤ from) ≤ unsigned_abs (int_max b from -ℤ from)
-past-mono from a b less = grind (arith, ints)
-
-min-mono : (a b c : ℕ) → a ≤ b → min a c ≤ min b c
-min-mono a b c less = omega (arith, less)
-
 -- a place after another lies in no strip before the other's
 strips_rise : (s : Strips) (a b : ℤ) → a ≤ℤ b → strip_of s a ≤ strip_of s b
 strips_rise s a b less = min-mono _ _ (STRIPS - 1) (shr-mono _ _ (s.shift % 64) (past-mono s.from a b less))
-
-begins_before : (lo hi other_lo other_hi : ℤ) → touches_on lo hi other_lo other_hi ≡ true → lo ≤ℤ other_hi
-begins_before lo hi other_lo other_hi h = grind (arith, ints)
-
-ends_after : (lo hi other_lo other_hi : ℤ) → touches_on lo hi other_lo other_hi ≡ true → other_lo ≤ℤ hi
-ends_after lo hi other_lo other_hi h = grind (arith, ints)
-
-pub both_true : (a b : Bool) → a ≡ true → b ≡ true → (a && b) ≡ true
-both_true true true here there = refl
-both_true true false here there = there
-both_true false b here there = here
 
 -- a strip that a thing and a box have, in which the thing has its bit
 record CommonStrip (s : Strips) (place : ℕ) (low high : ℤ) : Type 0 where
@@ -152,14 +132,6 @@ either_bits a b i = ap (λ (n : ℕ). n == 1) (bit_at_or a b i) ∙ by_bits (bit
     by_bits zero (suc (suc y)) less small = absurd (omega (arith, small))
     by_bits (suc zero) (suc (suc y)) less small = absurd (omega (arith, small))
 
-pub either_left : (a b : Bool) → a ≡ true → (a || b) ≡ true
-either_left true b here = refl
-either_left false b here = absurd (false≢true here)
-
-pub either_right : (a b : Bool) → b ≡ true → (a || b) ≡ true
-either_right true b here = refl
-either_right false b here = here
-
 touches_last : (place : Bounds) (boxes : List Bounds) (one : Bounds) → touches_region place (boxes ++ one ∷ []) ≡ true → touches place one ≡ false → touches_region place boxes ≡ true
 touches_last place [] one h apart = ap (λ (b : Bool). b || false) (sym apart) ∙ h
 touches_last place (x ∷ boxes) one h apart = by_test (touches place x) h (λ rest. touches_last place boxes one rest apart)
@@ -179,21 +151,12 @@ one_box_more place boxes k at old found new d there before here keeps adds h = e
 
 -- ---- a coordinate that is read is that coordinate
 
-read_back : (v : ℤ) → unsigned_abs v ≤ 2097152 → to_z w32 (of_z w32 v) ≡ v
-read_back v near = to_z-of_z w32 v (fits_signed_from_abs w32 v (omega (arith, near)))
-
-read_x : (result corner : Vec3) → result ≡ corner → IsNear 2097152 corner → to_z w32 (of_z w32 result.x) ≡ corner.x
-read_x result corner is near = ap (λ (v : Vec3). to_z w32 (of_z w32 v.x)) is ∙ read_back corner.x near.x
-
 long_back : (v : ℤ) → unsigned_abs v ≤ 2097152 → to_z w64 (of_z w64 v) ≡ v
 long_back v near = to_z-of_z w64 v (fits_signed_from_abs w64 v (omega (arith, near)))
 
 pub read_long : (long : ℤ) (result corner : Vec3) → long ≡ to_z w32 (of_z w32 result.x) → result ≡ corner → IsNear 2097152 corner → to_z w64 (of_z w64 long) ≡ corner.x
 read_long long result corner long_is is near =
     ap (λ (v : ℤ). to_z w64 (of_z w64 v)) (long_is ∙ read_x result corner is near) ∙ long_back corner.x near.x
-
-read_y : (result corner : Vec3) → result ≡ corner → IsNear 2097152 corner → to_z w32 (of_z w32 result.y) ≡ corner.y
-read_y result corner is near = ap (λ (v : Vec3). to_z w32 (of_z w32 v.y)) is ∙ read_back corner.y near.y
 
 pub read_long_y : (long : ℤ) (result corner : Vec3) → long ≡ to_z w32 (of_z w32 result.y) → result ≡ corner → IsNear 2097152 corner → to_z w64 (of_z w64 long) ≡ corner.y
 read_long_y long result corner long_is is near =

@@ -16,20 +16,18 @@ use Rattle.entity_recs.specs.Records.{with_state}
 use Rattle.core_steps.specs.Views.{Fixed, has, state_at, thing_of, things_in}
 use Rattle.core_seats.specs.NearKept.{AreAtIds, AreThings, thing_with, touching, things_loaded}
 use Rattle.entity_recs.specs.Actions.{Meaning, HasValidity}
+use Rattle.entity_recs.proofs.Ids.{id_in}
 use Rattle.core_steps.specs.Stands.{IsLawful, IsStart}
 use Rattle.std.proofs.Math.ListN.{get_or-map}
+use Rattle.std.proofs.Math.Bool.{or-true}
 use Rattle.core_seats.specs.declared.strips.ThingIndex.{ThingIndex}
 use Rattle.core_seats.specs.ThingBits.{has_place, AreMarked}
 use Rattle.core_seats.specs.ThingStrips.{MarksThings}
 use Rattle.core_steps.proofs.Lists.{has_filter}
 use Rattle.core_steps.proofs.Runs.{live_ordered, start_world}
 use Rattle.core_seats.specs.Shown.{RulesView, fixed_of, IsRuledWith}
-use Rattle.core_seats.proofs.NearLists.{AreFound, found_at_ids, id_small}
+use Rattle.core_seats.proofs.NearLists.{AreFound, found_at_ids}
 use Rattle.core_seats.proofs.KeptNear.{IsBelowAll, AreRising, are_rising}
-
-or_right : (b : Bool) → (b || true) ≡ true
-or_right true = refl
-or_right false = refl
 
 -- ---- ids that rise
 
@@ -259,7 +257,7 @@ id_below F validity start j there =
     let all_taken = All-get_or (λ (r : Rec). F.takes r ≡ true) (map F.start.record_of F.start.ids) j (F.start.record_of 0) (omega (arith, sized, there)) start.taken in
     let taken : F.takes (F.start.record_of id) ≡ true = ap F.takes (sym (get_or-map F.start.record_of F.start.ids j 0)) ∙ all_taken in
     let own : (F.start.record_of id).id ≡ id = All-get_or (λ (n : ℕ). (F.start.record_of n).id ≡ n) F.start.ids j 0 there start.own in
-    let small = id_small (F.start.record_of id).kind (F.start.record_of id).id (validity.keepable (F.start.record_of id) taken).bounds.id in
+    let small = id_in (F.start.record_of id).kind (F.start.record_of id).id (validity.keepable (F.start.record_of id) taken).bounds.id in
     omega (arith, own, small)
 
 -- there are few things
@@ -299,7 +297,7 @@ touching_has region (r ∷ rs) (suc k) d there touch = by_test (touches_region (
   where
     by_test : (b : Bool) → has (map (λ (q : Rec). q.id) (touching region rs)) (get_or rs k d).id ≡ true
         → has (map (λ (q : Rec). q.id) (if b then r ∷ touching region rs else touching region rs)) (get_or rs k d).id ≡ true
-    by_test true rest = ap (λ (b : Bool). (r.id == (get_or rs k d).id) || b) rest ∙ or_right (r.id == (get_or rs k d).id)
+    by_test true rest = ap (λ (b : Bool). (r.id == (get_or rs k d).id) || b) rest ∙ or-true (r.id == (get_or rs k d).id)
     by_test false rest = rest
 
 -- each of the records is where its id is

@@ -1,18 +1,15 @@
 -- An action for tests: a player stays where it is, and its record gets the number of the command.
-use Rattle.std.proofs.Common.{◌≡◌, ℕ, ◌^◌, ◌<◌, ◌≤◌, nat_lt, nat_le, Bool, true, false, ◌&&◌, ℤ, int_le, unsigned_abs}
-use Rattle.std.proofs.Common.{List, [], ◌∷◌, refl, arith}
+use Rattle.std.proofs.Common.{◌≡◌, ℕ, ◌^◌, ◌<◌, nat_lt, nat_le, Bool, true, false, ◌&&◌, ℤ, int_le, []}
+use Rattle.std.proofs.Common.{List, ◌∷◌, refl, arith}
 use Rattle.std.specs.Prelude.{◌==◌}
 use Rattle.std.specs.List.{IsDistinct}
-use Rattle.std.specs.Ordering.{int_eq}
-use Rattle.std.proofs.lemmas.Bool.{and_from, false≢true}
-use Rattle.std.proofs.lemmas.Bool.Decides.{nat_tests, Decides-int_eq}
+use Rattle.std.proofs.lemmas.Bool.{and_from, false≢true, and_parts, lt-ltb, leb-true, ltb-true}
 use Rattle.std.proofs.lemmas.Int.{ints}
 use Rattle.std.proofs.lemmas.List.Elements.{All-cons, All-nil}
-use Rattle.arena_geo.specs.declared.vec3.Vec3.{Vec3}
-use Rattle.arena_geo.specs.Vectors.{IsNear}
+use Rattle.arena_geo.specs.Vectors.{is_near, is_same_vector}
 use Rattle.arena_geo.specs.Bounds.{Bounds, IsBox}
 use Rattle.arena_geo.specs.Regions.{is_inside}
-use Rattle.arena_geo.proofs.Vectors.{same_parts}
+use Rattle.arena_geo.proofs.Vectors.{near_by_test, same_by_test}
 use Rattle.entity_recs.specs.declared.bodies.TheConstants.{PLAYER_MINS, PLAYER_MAXS}
 use Rattle.entity_recs.specs.declared.kind.Kind.{Kind}
 use Rattle.entity_recs.specs.declared.kind.Kind.TheVariants.{Player, Ammo, Gem, Teleporter, Goal, Lift}
@@ -24,19 +21,11 @@ use Rattle.entity_recs.specs.Commands.{Command}
 use Rattle.entity_recs.specs.Actions.{Meaning, IsKeepable, HasValidity, HasLocality, HasFootprint}
 use Rattle.entity_recs.proofs.Standing.{records_have_boxes}
 
--- each part is at most far from 0
-abbrev pub is_near : ℕ → Vec3 → Bool
-is_near far v = nat_le (unsigned_abs v.x) far && nat_le (unsigned_abs v.y) far && nat_le (unsigned_abs v.z) far
-
--- the parts are the same
-abbrev pub is_same : Vec3 → Vec3 → Bool
-is_same v w = int_eq v.x w.x && int_eq v.y w.y && int_eq v.z w.z
-
 -- a player's numbers but that of its last command are within their bounds, and it has a player's shape
 abbrev pub is_player : Rec → Bool
 is_player r =
-    nat_lt r.id 64 && is_near 1048576 r.origin && is_near 512000 r.vel && is_same r.mins PLAYER_MINS
-    && is_same r.maxs PLAYER_MAXS && nat_le r.flags 3 && nat_le r.ammo 100 && nat_le r.carry 8
+    nat_lt r.id 64 && is_near 1048576 r.origin && is_near 512000 r.vel && is_same_vector r.mins PLAYER_MINS
+    && is_same_vector r.maxs PLAYER_MAXS && nat_le r.flags 3 && nat_le r.ammo 100 && nat_le r.carry 8
     && nat_lt r.score 4294967296
 
 -- a record of this kind is taken: players alone are
@@ -66,55 +55,30 @@ meaning = record { takes = takes; region_of = region_of; effect_of = effect_of }
 
 -- ---- the laws of an action
 
-both : (a b : Bool) → (a && b) ≡ true → (a ≡ true) × (b ≡ true)
-both true b h = (refl, h)
-both false b h = absurd (false≢true h)
-
-at_most : (n far : ℕ) → nat_le n far ≡ true → n ≤ far
-at_most n far e = grind (arith, nat_tests)
-
-below : (n far : ℕ) → nat_lt n far ≡ true → n < far
-below n far e = grind (arith, nat_tests)
-
-is_below : (n far : ℕ) → n < far → nat_lt n far ≡ true
-is_below n far e = grind (arith, nat_tests)
-
-near : (far : ℕ) (v : Vec3) → is_near far v ≡ true → IsNear far v
-near far v h =
-    let xy = both (nat_le (unsigned_abs v.x) far && nat_le (unsigned_abs v.y) far) (nat_le (unsigned_abs v.z) far) h in
-    let x_y = both (nat_le (unsigned_abs v.x) far) (nat_le (unsigned_abs v.y) far) xy.0 in
-    record { x = at_most _ far x_y.0; y = at_most _ far x_y.1; z = at_most _ far xy.1 }
-
-same : (v w : Vec3) → is_same v w ≡ true → v ≡ w
-same v w h =
-    let xy = both (int_eq v.x w.x && int_eq v.y w.y) (int_eq v.z w.z) h in
-    let x_y = both (int_eq v.x w.x) (int_eq v.y w.y) xy.0 in
-    same_parts ((Decides-int_eq v.x w.x).0 x_y.0) ((Decides-int_eq v.y w.y).0 x_y.1) ((Decides-int_eq v.z w.z).0 xy.1)
-
 -- a player that is taken can be kept
 player_is_keepable : (r : Rec) → r.kind ≡ Player → is_taken Player r ≡ true → IsKeepable r
 player_is_keepable r kind h =
-    let seq = both (is_player r) (nat_lt r.seq 4294967296) h in
-    let score = both _ (nat_lt r.score 4294967296) seq.0 in
-    let carry = both _ (nat_le r.carry 8) score.0 in
-    let ammo = both _ (nat_le r.ammo 100) carry.0 in
-    let flags = both _ (nat_le r.flags 3) ammo.0 in
-    let maxs = both _ (is_same r.maxs PLAYER_MAXS) flags.0 in
-    let mins = both _ (is_same r.mins PLAYER_MINS) maxs.0 in
-    let vel = both _ (is_near 512000 r.vel) mins.0 in
-    let place = both (nat_lt r.id 64) (is_near 1048576 r.origin) vel.0 in
+    let seq = and_parts (is_player r) (nat_lt r.seq 4294967296) h in
+    let score = and_parts _ (nat_lt r.score 4294967296) seq.0 in
+    let carry = and_parts _ (nat_le r.carry 8) score.0 in
+    let ammo = and_parts _ (nat_le r.ammo 100) carry.0 in
+    let flags = and_parts _ (nat_le r.flags 3) ammo.0 in
+    let maxs = and_parts _ (is_same_vector r.maxs PLAYER_MAXS) flags.0 in
+    let mins = and_parts _ (is_same_vector r.mins PLAYER_MINS) maxs.0 in
+    let vel = and_parts _ (is_near 512000 r.vel) mins.0 in
+    let place = and_parts (nat_lt r.id 64) (is_near 1048576 r.origin) vel.0 in
     record {
       bounds = record {
-        id = rw kind (below r.id 64 place.0);
-        origin = near 1048576 r.origin place.1;
-        shape = rw kind (record { low_is = same r.mins PLAYER_MINS mins.1; high_is = same r.maxs PLAYER_MAXS maxs.1 });
-        vel = near 512000 r.vel vel.1;
-        flags = at_most r.flags 3 flags.1;
-        ammo = at_most r.ammo 100 ammo.1;
-        carry = at_most r.carry 8 carry.1;
+        id = rw kind (ltb-true r.id 64 place.0);
+        origin = near_by_test 1048576 r.origin place.1;
+        shape = rw kind (record { low_is = same_by_test r.mins PLAYER_MINS mins.1; high_is = same_by_test r.maxs PLAYER_MAXS maxs.1 });
+        vel = near_by_test 512000 r.vel vel.1;
+        flags = leb-true r.flags 3 flags.1;
+        ammo = leb-true r.ammo 100 ammo.1;
+        carry = leb-true r.carry 8 carry.1;
       };
-      score = below r.score 4294967296 score.1;
-      seq = below r.seq 4294967296 seq.1;
+      score = ltb-true r.score 4294967296 score.1;
+      seq = ltb-true r.seq 4294967296 seq.1;
     }
 
 pub keepable : (r : Rec) (kind : Kind) → r.kind ≡ kind → is_taken kind r ≡ true → IsKeepable r
@@ -124,7 +88,7 @@ keepable _ _ _ h = absurd (false≢true h)
 numbered : (kind : Kind) (r : Rec) (seq : ℕ) → seq < 2 ^ 32 → is_taken kind r ≡ true
     → is_taken kind (record r { seq = seq }) ≡ true
 numbered Player r seq small h = and_from (is_player r) (nat_lt seq 4294967296)
-    (both (is_player r) (nat_lt r.seq 4294967296) h).0 (is_below seq 4294967296 small)
+    (and_parts (is_player r) (nat_lt r.seq 4294967296) h).0 (lt-ltb seq 4294967296 small)
 numbered Ammo r seq small h = h
 numbered Gem r seq small h = h
 numbered Teleporter r seq small h = h
@@ -152,7 +116,7 @@ staying_is_valid = record {
 pub staying_is_local : HasLocality takes region_of effect_of
 staying_is_local = record { near = λ me near c call. refl }
 
-least_itself : (n : ℤ) → int_le n n ≡ true
+pub least_itself : (n : ℤ) → int_le n n ≡ true
 least_itself n = grind (arith, ints)
 
 contains_itself : (b : Bounds) → is_inside b (b ∷ []) ≡ true

@@ -1,15 +1,14 @@
 -- A history and a log with one item more.
-use Rattle.std.proofs.Common.{◌≡◌, ℕ, zero, suc, ◌+◌, ◌<◌, ◌≤◌, false, List, [], ◌∷◌, ◌++◌, length, map, refl, sym, ap, ◌∙◌, subst, inl, inr, arith, append_assoc, length-append}
-use Rattle.std.specs.Prelude.{◌==◌, All}
+use Rattle.std.proofs.Common.{◌≡◌, ℕ, zero, suc, ◌+◌, ◌<◌, ◌≤◌, false, List, [], ◌∷◌, ◌++◌, length, map, refl, sym, ap, ◌∙◌, subst, inl, inr, arith, append_assoc, length-append, ◌^◌, ◌*◌}
+use Rattle.std.specs.Prelude.{◌==◌}
 use Rattle.std.specs.List.Sorted.{IsStrictlyIncreasing, IsPermutation}
-use Rattle.std.proofs.Math.ListN.{get_or, get_or-append}
-use Rattle.std.proofs.Math.Seq.{get_or-append_seam}
 use Rattle.std.proofs.lemmas.Bool.{cases_Bool, true≢false, eqb-true, eq-eqb, ne_eqb}
 use Rattle.std.proofs.lemmas.List.{map-append}
 use Rattle.std.proofs.lemmas.List.Elements.{All-append, All-map, All-weaker, All-from_recursion}
 use Rattle.std.proofs.lemmas.List.Sorted.{IsPermutation-refl, IsPermutation-trans, IsPermutation-append_comm, IsPermutation-append_left, IsPermutation-append_right}
 use Rattle.entity_recs.specs.Worlds.{World}
 use Rattle.entity_recs.specs.Histories.{Action, Item, entry_of, outcome, run, IsLegal}
+use Rattle.entity_recs.proofs.Ids.{rising_with}
 use Rattle.core_steps.specs.Stands.{IsLogWithin, items_below}
 
 -- ---- a list with one item more
@@ -65,7 +64,7 @@ legal_with act start history new is here = record { each = placed }
 
 -- ---- the items of all logs
 
-items_same_below : (n : ℕ) (f g : ℕ → List Item) → ((k : ℕ) → k < n → f k ≡ g k) → items_below n f ≡ items_below n g
+pub items_same_below : (n : ℕ) (f g : ℕ → List Item) → ((k : ℕ) → k < n → f k ≡ g k) → items_below n f ≡ items_below n g
 unfolding items_below
 items_same_below zero f g same = refl
 items_same_below (suc n) f g same =
@@ -112,24 +111,6 @@ items_with (suc n) i logs new item below here others =
 
 -- ---- a log
 
--- numbers that rise with a greater one
-rising_with : (xs : List ℕ) (x : ℕ) → IsStrictlyIncreasing xs → All (λ y. y < x) xs → IsStrictlyIncreasing (xs ++ x ∷ [])
-rising_with xs x rising below k more =
-    let first = get_or-append xs (x ∷ []) 0 k (omega (arith, length-append xs (x ∷ []))) in
-    elim (cases_Bool (k + 1 == length xs)) [
-      | inl last ↦
-          let seam : get_or (xs ++ x ∷ []) (k + 1) 0 ≡ x =
-          subst (λ (n : ℕ). get_or (xs ++ x ∷ []) n 0 ≡ x) (sym (eqb-true (k + 1) (length xs) last)) (get_or-append_seam xs x [] 0) in
-          rw (first, seam) (below k 0 (omega (arith, length-append xs (x ∷ []))))
-      | inr other ↦
-          let less : k + 1 < length xs = not_last (k + 1) (length xs) (omega (arith, length-append xs (x ∷ []))) (λ same. true≢false (sym (eq-eqb (k + 1) (length xs) same) ∙ other)) in
-          let second = get_or-append xs (x ∷ []) 0 (k + 1) less in
-          rw (first, second) (rising k less)
-    ]
-  where
-    not_last : (a b : ℕ) → a < b + 1 → (a ≡ b → ⊥) → a < b
-    not_last a b less other = omega (arith, other)
-
 -- a log with an item whose place is at least what was seen
 pub within_with : (seen room : ℕ) (log : List Item) (item : Item) → IsLogWithin seen room log → seen ≤ item.entry.place → length log < room
     → IsLogWithin (suc item.entry.place) room (log ++ item ∷ [])
@@ -143,3 +124,11 @@ within_with seen room log item is least fits = record {
       (All-from_recursion (λ (x : Item). x.entry.place < suc item.entry.place) (item ∷ []) (omega arith, tt));
   fits = omega (arith, length-append log (item ∷ []));
 }
+
+pub below_small : (n : ℕ) (logs : ℕ → List Item) → ((k : ℕ) → length (logs k) < 2 ^ 32) → length (items_below n logs) ≤ n * 2 ^ 32
+unfolding items_below
+below_small zero logs small = omega arith
+below_small (suc n) logs small =
+    let rest = below_small n logs small in
+    let one = small n in
+    rw (length-append (items_below n logs) (logs n)) (omega (arith, rest, one))

@@ -1,22 +1,22 @@
 -- Regions that are held: no box that lies inside one touches another one.
-use Rattle.std.proofs.Common.{◌≡◌, ℕ, ◌-◌, ◌^◌, ◌<◌, Bool, true, false, List, [], ◌∷◌, refl, sym, ap, ◌∙◌, subst, inl, inr, arith}
-use Rattle.std.specs.Prelude.{◌==◌, ◌||◌, ◌&&◌, filter, All, int_le}
+use Rattle.std.proofs.Common.{◌≡◌, ℕ, ◌-◌, ◌^◌, ◌<◌, true, false, List, [], ◌∷◌, refl, sym, ap, ◌∙◌, subst, inl, inr, arith}
+use Rattle.std.specs.Prelude.{◌==◌, ◌||◌, filter, All, int_le}
 use Rattle.std.specs.List.{range_with_len}
 use Rattle.std.proofs.lemmas.Bool.{false≢true, true≢false, or_cases, or_left, or_right}
 use Rattle.std.proofs.lemmas.List.Elements.{recursion_from_All, All-weaker}
+use Rattle.std.proofs.Math.Bool.{and_comm}
 use Rattle.arena_geo.specs.Bounds.{Bounds, IsOrdered, IsBox}
 use Rattle.arena_geo.specs.Boxes.{touches, contains}
 use Rattle.arena_geo.specs.Regions.{touches_region, is_inside}
 use Rattle.arena_geo.proofs.Containment.{contained_is_touched}
-use Rattle.entity_recs.specs.declared.kind.Kind.{Kind}
-use Rattle.entity_recs.specs.declared.kind.Kind.TheVariants.{Player, Ammo, Gem, Teleporter, Goal, Lift}
 use Rattle.entity_recs.specs.declared.rec.Rec.{Rec}
-use Rattle.entity_recs.specs.Records.{with_state, IsIdOf}
+use Rattle.entity_recs.specs.Records.{with_state}
 use Rattle.entity_recs.specs.Bodies.{abs_of}
 use Rattle.entity_recs.specs.Commands.{Command}
 use Rattle.entity_recs.specs.Worlds.{World, others_of}
 use Rattle.entity_recs.specs.Histories.{Item}
 use Rattle.entity_recs.specs.Actions.{HasPlayer}
+use Rattle.entity_recs.proofs.Ids.{kind_of_id}
 use Rattle.areanode.specs.Words.{has_bit}
 use Rattle.areanode.specs.Trees.{leaf_node, region_has_leaf, leaves_of}
 use Rattle.areanode.proofs.Words.{word_has_its_bits}
@@ -35,15 +35,6 @@ now_world F core history now lawful start is =
     subst (IsRunWorld F) (sym is.tied) (world_of_run F history F.start lawful start (start_world F start) (recursion_from_All (λ (item : Item). IsGiven F item.command) history is.given))
 
 -- ---- the own record
-
--- an id below 64 is a player's
-kind_of_id : (kind : Kind) (id : ℕ) → IsIdOf kind id → id < 64 → kind ≡ Player
-kind_of_id Player id is below = refl
-kind_of_id Ammo id is below = absurd (omega arith)
-kind_of_id Gem id is below = absurd (omega arith)
-kind_of_id Teleporter id is below = absurd (omega arith)
-kind_of_id Goal id is below = absurd (omega arith)
-kind_of_id Lift id is below = absurd (omega arith)
 
 -- two lists of words with the same first five make the same record
 pub record SameFive (words other : List ℕ) : Type 0 where
@@ -202,12 +193,6 @@ giving_up_seat F core history now i nodes lawful start is e =
     (ap (λ (p : Point). leaves_held p wanted) e)
 
 -- ---- what lies inside a region touches it
-
-and_comm : (a b : Bool) → (a && b) ≡ (b && a)
-and_comm true true = refl
-and_comm true false = refl
-and_comm false true = refl
-and_comm false false = refl
 
 touches_sym : (a b : Bounds) → touches a b ≡ touches b a
 touches_sym a b =

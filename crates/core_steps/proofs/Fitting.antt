@@ -34,7 +34,7 @@ one_less n (x ∷ xs) is = elim (cases_Bool (x == n)) [
 ]
 
 -- there are at most n numbers below n, each once
-few_below : (n : ℕ) (xs : List ℕ) → AreDistinct xs → ((v : ℕ) → has xs v ≡ true → v < n) → length xs ≤ n
+pub few_below : (n : ℕ) (xs : List ℕ) → AreDistinct xs → ((v : ℕ) → has xs v ≡ true → v < n) → length xs ≤ n
 few_below zero [] is below = omega arith
 few_below zero (x ∷ xs) is below = let no = below x (or_left _ _ (eq-eqb x x refl)) in absurd (omega arith)
 few_below (suc n) xs is below =

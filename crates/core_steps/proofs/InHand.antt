@@ -211,7 +211,7 @@ module _ (view : View) (P : Command → Type 0) where
 
 -- ---- the command in hand
 
-hand_given : (given : Option Command) (view : View) (c : Command) → given ≡ Some c → hand_of given view ≡ Some c
+pub hand_given : (given : Option Command) (view : View) (c : Command) → given ≡ Some c → hand_of given view ≡ Some c
 hand_given None view c e = cc
 hand_given (Some d) view c e = e
 

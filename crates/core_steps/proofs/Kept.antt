@@ -290,7 +290,7 @@ view_of_cores : (b : Bool) (one two : Core) (i : ℕ) (seen : View) → one.view
 view_of_cores true one two i seen a c = a
 view_of_cores false one two i seen a c = c
 
-other_view : (F : Fixed) (core : Core) (j i : ℕ) (next : Next) → (i == j) ≡ false → (core_after F core j next).view i ≡ core.view i
+pub other_view : (F : Fixed) (core : Core) (j i : ℕ) (next : Next) → (i == j) ≡ false → (core_after F core j next).view i ≡ core.view i
 other_view F core j i (Begin c) other = put_other j i _ core.view other
 other_view F core j i LoadOwn other = put_other j i _ core.view other
 other_view F core j i LoadAgain other = put_other j i _ core.view other

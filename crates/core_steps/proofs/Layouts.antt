@@ -5,7 +5,7 @@ use Rattle.std.proofs.lemmas.Bool.{cond-true, cond-false, lt-ltb, le-ltb, ne_eqb
 use Rattle.core_steps.specs.Cells.{links_index, body_index, state_index}
 use Rattle.core_steps.specs.Laws.{LayoutIsRight}
 
-not_first : (n : ℕ) → 0 < n → (n == 0) ≡ false
+pub not_first : (n : ℕ) → 0 < n → (n == 0) ≡ false
 not_first n some = ne_eqb n 0 (λ e. omega arith)
 
 pub layout_is_right : LayoutIsRight

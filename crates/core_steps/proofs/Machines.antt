@@ -1,6 +1,6 @@
 -- The machine: each step that a seat makes keeps what stands.
-use Rattle.std.proofs.Common.{◌≡◌, ℕ, ◌<◌, ◌≤◌, Bool, true, false, List, [], ◌∷◌, length, refl, sym, ap, ◌∙◌, subst, inl, inr, Option, Some, None, arith}
-use Rattle.std.specs.Prelude.{◌==◌, ◌&&◌, nat_le, filter}
+use Rattle.std.proofs.Common.{◌≡◌, ℕ, ◌<◌, ◌≤◌, true, false, List, [], ◌∷◌, length, refl, sym, ap, ◌∙◌, subst, inl, inr, Option, Some, None, arith}
+use Rattle.std.specs.Prelude.{◌==◌, ◌&&◌, nat_le}
 use Rattle.std.proofs.lemmas.Bool.{cases_Bool, false≢true, or_right, cond-true}
 use Rattle.arena_geo.specs.Regions.{touches_region}
 use Rattle.entity_recs.specs.declared.effect.NewState.{NewState}
@@ -14,6 +14,7 @@ use Rattle.core_steps.specs.Steps.{sensing, visiting, loading, taking, storing, 
 use Rattle.core_steps.specs.Stands.{Stands}
 use Rattle.core_steps.specs.Machine.{Machine, IsPending, SomeIsLeft, HasNext, Fits, ViewFits, lists_ahead, states_ahead, MachineStands}
 use Rattle.core_steps.proofs.Puts.{each_put, put_other}
+use Rattle.core_steps.proofs.Planned.{filter_few}
 
 -- ---- a seat goes on
 
@@ -50,12 +51,6 @@ pub states_sensing : (F : Fixed) (ids : List ℕ) → states_ahead F (sensing id
 states_sensing F [] = omega arith
 states_sensing F (id ∷ ids) = omega arith
 
-filter_fewer : (test : ℕ → Bool) (xs : List ℕ) → length (filter test xs) ≤ length xs
-filter_fewer test [] = omega arith
-filter_fewer test (x ∷ xs) =
-    let rest = filter_fewer test xs in
-    elim (cases_Bool (test x)) [ inl e ↦ rw e (omega arith) | inr e ↦ rw e (omega arith) ]
-
 pub lists_visiting : (F : Fixed) (view : View) (plan : List ℕ) → lists_ahead F (visiting F view plan) ≤ length plan
 lists_visiting F view [] = lists_sensing F (things_in F (region_in F view.cmd view.own))
 lists_visiting F view (node ∷ plan) = elim (cases_Bool (is_leaf F node)) [ inl leaf ↦ rw leaf (omega arith) | inr inner ↦ rw inner (omega arith) ]
@@ -64,7 +59,7 @@ pub states_visiting : (F : Fixed) (view : View) (plan : List ℕ) → states_ahe
 states_visiting F view [] =
     let region = region_in F view.cmd view.own in
     let some = states_sensing F (things_in F region) in
-    let all = filter_fewer (λ id. nat_le 64 id && touches_region (abs_of (F.start.record_of id)) region) F.start.ids in
+    let all = filter_few (λ id. nat_le 64 id && touches_region (abs_of (F.start.record_of id)) region) F.start.ids in
     omega (arith, some, all)
 states_visiting F view (node ∷ plan) = elim (cases_Bool (is_leaf F node)) [ inl leaf ↦ rw leaf (omega arith) | inr inner ↦ rw inner (omega arith) ]
 

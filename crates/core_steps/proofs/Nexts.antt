@@ -75,7 +75,7 @@ next_exists F m history now i is =
 no_node : {R : Type 0} (node : ℕ) → None ≡ Some node → R
 no_node node e = cc
 
-same_taken : (a next : Next) (node : ℕ) → Some a ≡ Some next → node_taken next ≡ Some node → node_taken a ≡ Some node
+pub same_taken : (a next : Next) (node : ℕ) → Some a ≡ Some next → node_taken next ≡ Some node → node_taken a ≡ Some node
 same_taken a next node e taken = let same : a ≡ next = cc in ap node_taken same ∙ taken
 
 taken_begun : (given : Option Command) (next : Next) (node : ℕ) → beginning given ≡ Some next → node_taken next ≡ Some node → None ≡ Some node
@@ -90,12 +90,12 @@ taken_given : (given : Option ℕ) (next : Next) (node : ℕ) → giving given �
 taken_given None next node e taken = cc
 taken_given (Some given) next node e taken = same_taken (GiveNode given) next node e taken
 
-taken_resolved : (effect : Effect) (nodes : List ℕ) (node : ℕ) → node_taken (resolving effect nodes) ≡ Some node → first nodes ≡ Some node
+pub taken_resolved : (effect : Effect) (nodes : List ℕ) (node : ℕ) → node_taken (resolving effect nodes) ≡ Some node → first nodes ≡ Some node
 taken_resolved effect [] node taken = taken
 taken_resolved effect (n ∷ nodes) node taken = taken
 
 -- the node of a take that comes next is the seat's next node
-taken_is_next : (F : Fixed) (view : View) (given : Option Command) (point : Point) (next : Next) (node : ℕ) → next_at F view given point ≡ Some next → node_taken next ≡ Some node
+pub taken_is_next : (F : Fixed) (view : View) (given : Option Command) (point : Point) (next : Next) (node : ℕ) → next_at F view given point ≡ Some next → node_taken next ≡ Some node
     → next_node_at F view point ≡ Some node
 taken_is_next F view given Idle next node e taken = taken_begun given next node e taken
 taken_is_next F view given Owning next node e taken = same_taken LoadOwn next node e taken

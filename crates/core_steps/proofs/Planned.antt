@@ -13,7 +13,7 @@ use Rattle.core_steps.specs.Views.{has, Fixed, leaf_nodes, plan_of, without_play
 use Rattle.core_steps.specs.Machine.{slots_of}
 use Rattle.core_steps.proofs.Lists.{has_filter}
 
-filter_few : (test : ℕ → Bool) (xs : List ℕ) → length (filter test xs) ≤ length xs
+pub filter_few : (test : ℕ → Bool) (xs : List ℕ) → length (filter test xs) ≤ length xs
 filter_few test [] = omega arith
 filter_few test (x ∷ xs) =
     let rest = filter_few test xs in

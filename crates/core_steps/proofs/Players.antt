@@ -22,7 +22,7 @@ use Rattle.core_steps.proofs.Listing.{loading_listed, at_loading}
 use Rattle.core_steps.proofs.Held.{held_words}
 use Rattle.core_steps.proofs.Owned.{one_more, the_last, longer, cell_low}
 
-without_other : (others : List PlayerRead) (slot v : ℕ) → (v == slot) ≡ false → player_at (without_player slot others) v ≡ player_at others v
+pub without_other : (others : List PlayerRead) (slot v : ℕ) → (v == slot) ≡ false → player_at (without_player slot others) v ≡ player_at others v
 without_other [] slot v other = refl
 without_other (read ∷ others) slot v other =
     let rest = without_other others slot v other in

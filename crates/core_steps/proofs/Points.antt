@@ -1,11 +1,12 @@
 -- A seat whose point goes on while the rest of its view stays.
-use Rattle.std.proofs.Common.{subst, ◌≡◌, ℕ, Bool, true, false, List, [], ◌∷◌, length, refl, sym, ap, ◌∙◌, inl, inr, arith}
+use Rattle.std.proofs.Common.{subst, ◌≡◌, ℕ, Bool, true, false, List, [], ◌∷◌, length, refl, sym, ap, ◌∙◌, inl, inr, arith, Option, Some, None, is_some}
 use Rattle.std.specs.Prelude.{◌==◌, ◌||◌, not}
 use Rattle.std.proofs.lemmas.Bool.{cases_Bool, false≢true, true≢false, eq-eqb, or_cases, or_left, cond-true}
 use Rattle.entity_recs.specs.Worlds.{World}
 use Rattle.entity_recs.specs.Histories.{Item}
+use Rattle.entity_recs.specs.Commands.{Command}
 use Rattle.core_steps.specs.Cells.{Words}
-use Rattle.core_steps.specs.Views.{Fixed, Point, ListRead, Stage, AtReading, stage_of, is_busy, is_open, is_settled, is_committed, is_before_leaves, is_whole, is_owning, is_read_again, is_without_effect, is_storing, View, has, inner_held, leaves_held, is_leaf, things_in, region_in, holds, held_word, stores_owed}
+use Rattle.core_steps.specs.Views.{Fixed, Point, ListRead, Stage, AtReading, stage_of, is_busy, is_open, is_settled, is_committed, is_before_leaves, is_whole, is_owning, is_read_again, is_without_effect, is_storing, View, has, inner_held, leaves_held, is_leaf, things_in, region_in, holds, held_word, stores_owed, Idle, Owning, Taking, Checking, Entering, Entered, Loading, Leaving, Sensing, Resolving, Claiming, Storing, Releasing, Returning, Yielding}
 use Rattle.core_steps.specs.Steps.{visiting, sensing}
 use Rattle.core_steps.specs.Stands.{OwesRight, IsAt, IsCurrent, IsGivingUp, IsHolding, HasRead, HasSensed, SeatStands, is_present, part_of}
 
@@ -159,3 +160,26 @@ current_between F links body point new wanted lists settled between is = record 
   ]);
   same_part = λ p k below. let none = between.part p in absurd (omega (arith, ap length none, below));
 }
+
+-- a point whose stage isn't busy is idle
+pub idle_point : (point : Point) → is_busy (stage_of point) ≡ false → point ≡ Idle
+idle_point Idle e = refl
+idle_point Owning e = absurd (true≢false e)
+idle_point (Taking got rest) e = absurd (true≢false e)
+idle_point Checking e = absurd (true≢false e)
+idle_point (Entering node plan) e = absurd (true≢false e)
+idle_point (Entered node plan) e = absurd (true≢false e)
+idle_point (Loading node part players plan) e = absurd (true≢false e)
+idle_point (Leaving node plan) e = absurd (true≢false e)
+idle_point (Sensing ids) e = absurd (true≢false e)
+idle_point Resolving e = absurd (true≢false e)
+idle_point (Claiming got rest) e = absurd (true≢false e)
+idle_point (Storing nodes stores) e = absurd (true≢false e)
+idle_point (Releasing nodes) e = absurd (true≢false e)
+idle_point (Returning leaves) e = absurd (true≢false e)
+idle_point (Yielding nodes leaves) e = absurd (true≢false e)
+
+-- no command is in hand where the test finds none
+pub none_in_hand : (given : Option Command) → is_some given ≡ false → given ≡ None
+none_in_hand None e = refl
+none_in_hand (Some c) e = absurd (true≢false e)

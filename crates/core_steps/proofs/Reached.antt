@@ -2,6 +2,7 @@
 use Rattle.std.proofs.Common.{◌≡◌, ℕ, suc, Bool, true, false, List, [], ◌∷◌, ◌++◌, refl, sym, ap, ◌∙◌, subst, inl, inr, Option, Some, None}
 use Rattle.std.specs.Prelude.{◌==◌}
 use Rattle.std.proofs.lemmas.Bool.{cases_Bool, false≢true, true≢false, eqb-true, eq-eqb, cond-true, cond-false}
+use Rattle.std.proofs.lemmas.Option.{same_Some}
 use Rattle.entity_recs.specs.Commands.{Command}
 use Rattle.entity_recs.specs.Worlds.{World}
 use Rattle.entity_recs.specs.Histories.{Item, run}
@@ -106,16 +107,13 @@ machine_start_stands F room rooms =
 
 -- ---- calls that make no step
 
-same_Some_command : (c d : Command) → Some c ≡ Some d → c ≡ d
-same_Some_command c d e = cc
-
 -- what holds of the commands that are given, where one more is
 given_put : (given : ℕ → Option Command) (i : ℕ) (c : Command) (P : ℕ → Command → Type 0) → P i c → ((j : ℕ) (d : Command) → (j == i) ≡ false → given j ≡ Some d → P j d)
     → (j : ℕ) (d : Command) → put i (Some c) given j ≡ Some d → P j d
 given_put given i c P here others j d e =
     elim (cases_Bool (j == i)) [
       | inl same ↦
-          let equal : c ≡ d = same_Some_command c d (sym (cond-true (j == i) (Some c) (given j) same) ∙ e) in
+          let equal : c ≡ d = same_Some c d (sym (cond-true (j == i) (Some c) (given j) same) ∙ e) in
           subst (λ (n : ℕ). P n d) (sym (eqb-true j i same)) (subst (P i) equal here)
       | inr other ↦ others j d other (sym (put_other i j (Some c) given other) ∙ e)
     ]

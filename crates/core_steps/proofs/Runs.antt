@@ -34,7 +34,7 @@ pub all_from_has : (P : ℕ → Type 0) (xs : List ℕ) → ((v : ℕ) → has x
 all_from_has P [] each = tt
 all_from_has P (x ∷ xs) each = (each x (or_left _ _ (eq-eqb x x refl)), all_from_has P xs (λ v h. each v (or_right _ _ h)))
 
-ids_of_records : (g : ℕ → Rec) (xs : List ℕ) → ((v : ℕ) → has xs v ≡ true → (g v).id ≡ v) → map (λ (r : Rec). r.id) (map g xs) ≡ xs
+pub ids_of_records : (g : ℕ → Rec) (xs : List ℕ) → ((v : ℕ) → has xs v ≡ true → (g v).id ≡ v) → map (λ (r : Rec). r.id) (map g xs) ≡ xs
 ids_of_records g [] own = refl
 ids_of_records g (x ∷ xs) own =
     let head = own x (or_left _ _ (eq-eqb x x refl)) in

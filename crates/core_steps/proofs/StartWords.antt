@@ -1,5 +1,5 @@
 -- The words at the start over a list of records: those of the records, and 0 where there is none.
-use Rattle.std.proofs.Common.{◌≡◌, ℕ, zero, suc, ◌<◌, Bool, true, false, if◌then◌else◌, List, [], ◌∷◌, map, refl, sym, ap, ◌∙◌}
+use Rattle.std.proofs.Common.{◌≡◌, ℕ, zero, suc, ◌<◌, Bool, true, false, if◌then◌else◌, List, [], ◌∷◌, get_or, map, refl, sym, ap, ◌∙◌}
 use Rattle.std.specs.Prelude.{◌==◌, ◌&&◌}
 use Rattle.std.proofs.lemmas.Bool.{lt-ltb, or_parts, cond-false}
 use Rattle.entity_recs.specs.declared.rec.Rec.{Rec}
@@ -21,7 +21,7 @@ dead_player F slot below dead = ap (λ (b : Bool). b && has F.start.ids slot) (s
 
 -- ---- the words of a record, and 0 where it isn't live
 
-nobody_words : (k : ℕ) → nth_word (words_of nobody) k ≡ 0
+pub nobody_words : (k : ℕ) → nth_word (words_of nobody) k ≡ 0
 nobody_words zero = refl
 nobody_words (suc zero) = refl
 nobody_words (suc (suc zero)) = refl
@@ -36,3 +36,13 @@ words_if_live false r k dead = ap (λ (r : Rec). nth_word (words_of r) k) (dead 
 pub state_if_live : (live : Bool) (r : Rec) → (live ≡ false → r ≡ nobody) → r.state ≡ (if live then r.state else 0)
 state_if_live true r dead = refl
 state_if_live false r dead = ap (λ (r : Rec). r.state) (dead refl)
+
+-- so many zeros
+abbrev pub zeros : ℕ → List ℕ
+zeros zero = []
+zeros (suc n) = 0 ∷ zeros n
+
+pub zeros_at : (n k : ℕ) → get_or (zeros n) k 0 ≡ 0
+zeros_at zero k = refl
+zeros_at (suc n) zero = refl
+zeros_at (suc n) (suc k) = zeros_at n k

@@ -5,11 +5,8 @@ use Rattle.std.specs.List.{range_with_len, AllByRecursion}
 use Rattle.std.proofs.lemmas.Bool.{cases_Bool, false≢true, true≢false, lt-ltb, and_from, and_parts, and_right, eq-eqb, or_cases, or_left, or_right, ltb-true, cond-true, cond-false}
 use Rattle.arena_geo.specs.Bounds.{Bounds}
 use Rattle.arena_geo.specs.Regions.{touches_region}
-use Rattle.entity_recs.specs.declared.kind.Kind.{Kind}
-use Rattle.entity_recs.specs.declared.kind.Kind.TheVariants.{Player, Ammo, Gem, Teleporter, Goal, Lift}
 use Rattle.entity_recs.specs.declared.effect.NewState.{NewState}
 use Rattle.entity_recs.specs.declared.effect.Effect.{Effect}
-use Rattle.entity_recs.specs.Records.{IsIdOf}
 use Rattle.entity_recs.specs.Bodies.{abs_of}
 use Rattle.entity_recs.specs.Commands.{Command}
 use Rattle.entity_recs.specs.Worlds.{World}
@@ -17,6 +14,7 @@ use Rattle.entity_recs.specs.Histories.{Item}
 use Rattle.areanode.specs.Words.{has_bit}
 use Rattle.areanode.specs.Trees.{visited_of, leaves_of}
 use Rattle.entity_recs.specs.declared.limits.TheConstants.{IDS}
+use Rattle.entity_recs.proofs.Ids.{id_in}
 use Rattle.core_steps.specs.declared.sizes.TheConstants.{TABLE_NODES, TABLE_STATES, TABLE_WORDS}
 use Rattle.core_steps.specs.Cells.{Words, Cell, Body, State, word_in, cell_of, node_index, links_index, cell_index, word_at}
 use Rattle.core_steps.specs.Encoding.{words_of}
@@ -127,14 +125,6 @@ planned_in F region node planned =
           let range = has_range 0 (inner_nodes F) node kept.listed in
           omega (arith, range.most)
     ]
-
-pub id_in : (kind : Kind) (id : ℕ) → IsIdOf kind id → id < IDS
-id_in Player id is = omega arith
-id_in Ammo id is = omega (arith, is.most)
-id_in Gem id is = omega (arith, is.most)
-id_in Teleporter id is = omega (arith, is.most)
-id_in Goal id is = omega (arith, is.most)
-id_in Lift id is = omega (arith, is.most)
 
 pub live_in : (F : Fixed) (id : ℕ) → IsLawful F → IsStart F → has F.start.ids id ≡ true → id < IDS
 live_in F id lawful start live =

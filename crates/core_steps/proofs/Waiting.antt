@@ -217,13 +217,14 @@ holder_busy F (Yielding nodes leaves) wanted node held = refl
 pub holder_is_below : (F : Fixed) (core : Core) (history : List Item) (now : World) (j node : ℕ) → Stands F core history now → holds F (core.view j).point (core.view j).wanted node ≡ true → j < (core.view 0).made
 holder_is_below F core history now j node is held = is.numbers.live j (busy_lives core.view j is.numbers (holder_busy F (core.view j).point (core.view j).wanted node held))
 
-record IsSomeNode (o : Option ℕ) : Type 0 where
-  node : ℕ
-  is : o ≡ Some node
+-- there is a node
+pub record IsSomeNode (o : Option ℕ) : Type 0 where
+  pub node : ℕ
+  pub is : o ≡ Some node
 
 -- ---- from a seat to the holder of the node that it waits for
 
-cases_Option : (o : Option ℕ) → (o ≡ None) ⊎ IsSomeNode o
+pub cases_Option : (o : Option ℕ) → (o ≡ None) ⊎ IsSomeNode o
 cases_Option None = inl refl
 cases_Option (Some node) = inr (record { node = node; is = refl })
 

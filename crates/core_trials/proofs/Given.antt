@@ -4,6 +4,7 @@ use Rattle.core_steps.specs.declared.sizes.TheConstants.{MOST_SEATS}
 use Rattle.std.specs.Prelude.{◌==◌}
 use Rattle.std.proofs.lemmas.Int.{ints}
 use Rattle.std.proofs.lemmas.Bool.{cases_Bool, false≢true, cond-true, cond-false, eqb-true, eqb-false, ne_eqb}
+use Rattle.std.proofs.lemmas.Option.{same_Some}
 use Rattle.entity_recs.specs.Commands.{Command}
 use Rattle.entity_recs.specs.Actions.{IsCommand}
 use Rattle.core_steps.specs.Views.{Fixed, stage_of, is_busy, has}
@@ -26,9 +27,6 @@ command_is slot buttons below small = record {
   buttons = small;
 }
 
-some_is : (c d : Command) → Some c ≡ Some d → c ≡ d
-some_is c d e = cc
-
 -- the next seat may be given a command
 pub may_give : (F : Fixed) (m : Machine) (i n buttons : ℕ) → i < n → n ≤ MOST_SEATS → buttons < 2 ^ 8 → has F.start.ids i ≡ true → IsFilled m i n → MayBeGiven F m i (errand_command i buttons)
 may_give F m i n buttons below few small live is = record {
@@ -49,7 +47,7 @@ given_more F m i n buttons is = record {
   idle = is.idle;
   own = λ j d e. elim (cases_Bool (j == i)) [
     | inl same ↦
-        let given : errand_command i buttons ≡ d = some_is (errand_command i buttons) d (sym (cond-true (j == i) (Some (errand_command i buttons)) (m.given j) same) ∙ e) in
+        let given : errand_command i buttons ≡ d = same_Some (errand_command i buttons) d (sym (cond-true (j == i) (Some (errand_command i buttons)) (m.given j) same) ∙ e) in
         sym (ap (λ (c : Command). c.slot) given) ∙ sym (eqb-true j i same)
     | inr other ↦ is.own j d (sym (cond-false (j == i) (Some (errand_command i buttons)) (m.given j) other) ∙ e)
   ];

@@ -11,7 +11,7 @@ use Rattle.entity_recs.specs.Actions.{IsCommand}
 use Rattle.core_steps.specs.Calls.{MayBeGiven, StandsSomehow, has_command, with_quitting}
 use Rattle.core_steps.specs.MachineLaws.{hand_of}
 use Rattle.core_steps.proofs.SameSeats.{SeatPart, same_seats}
-use Rattle.core_steps.proofs.InHand.{steps_bring_no_command}
+use Rattle.core_steps.proofs.InHand.{steps_bring_no_command, hand_given}
 use Rattle.core_seats.specs.Shown.{RulesView}
 use Rattle.core_machine.specs.Cores.{CoreView, machine_of}
 use Rattle.core_seats.specs.Logs.{entries_of}
@@ -19,8 +19,9 @@ use Rattle.core_machine.proofs.Filled.{IsFilled}
 use Rattle.core_trials.specs.Hands.{HasOwnCommands}
 use Rattle.std.specs.Option.{option_map}
 use Rattle.core_steps.specs.declared.step.Step.{Step}
-use Rattle.core_steps.specs.Views.{Fixed, View, Point, Idle, Owning, Taking, Checking, Entering, Entered, Loading, Leaving, Sensing, Resolving, Claiming, Storing, Releasing, Returning, Yielding, stage_of, is_busy, has}
+use Rattle.core_steps.specs.Views.{Fixed, View, Point, Idle, stage_of, is_busy, has}
 use Rattle.core_steps.specs.Machine.{Machine, Next, next_of, next_step_of, step_of, machine_after}
+use Rattle.core_steps.proofs.Points.{idle_point, none_in_hand}
 
 step_seat_of : (F : Fixed) (i : ℕ) (view : View) (s : Step) (next : Option Next) → option_map (step_of i view) next ≡ Some s → s.seat ≡ i
 step_seat_of F i view s None e = cc
@@ -74,31 +75,6 @@ own_after_quitting {A} F old new i after rules seats is =
 
 -- ---- a seat without a command
 
-idle_point : (point : Point) → is_busy (stage_of point) ≡ false → point ≡ Idle
-idle_point Idle e = refl
-idle_point Owning e = absurd (true≢false e)
-idle_point (Taking got rest) e = absurd (true≢false e)
-idle_point Checking e = absurd (true≢false e)
-idle_point (Entering node plan) e = absurd (true≢false e)
-idle_point (Entered node plan) e = absurd (true≢false e)
-idle_point (Loading node part players plan) e = absurd (true≢false e)
-idle_point (Leaving node plan) e = absurd (true≢false e)
-idle_point (Sensing ids) e = absurd (true≢false e)
-idle_point Resolving e = absurd (true≢false e)
-idle_point (Claiming got rest) e = absurd (true≢false e)
-idle_point (Storing nodes stores) e = absurd (true≢false e)
-idle_point (Releasing nodes) e = absurd (true≢false e)
-idle_point (Returning leaves) e = absurd (true≢false e)
-idle_point (Yielding nodes leaves) e = absurd (true≢false e)
-
-none_some : (given : Option Command) → is_some given ≡ false → given ≡ None
-none_some None e = refl
-none_some (Some c) e = absurd (true≢false e)
-
-given_hand : (given : Option Command) (view : View) (d : Command) → given ≡ Some d → hand_of given view ≡ Some d
-given_hand None view d e = cc
-given_hand (Some c) view d e = e
-
 busy_hand : (given : Option Command) (view : View) → ((c : Command) → given ≡ Some c → view.point ≡ Idle) → is_busy (stage_of view.point) ≡ true → hand_of given view ≡ Some view.cmd
 busy_hand None view pending busy = cond-true (is_busy (stage_of view.point)) (Some view.cmd) None busy
 busy_hand (Some c) view pending busy = absurd (true≢false (sym busy ∙ ap (λ (p : Point). is_busy (stage_of p)) (pending c refl)))
@@ -121,8 +97,8 @@ may_give_again F c i cmd stands is below command slot live free empty =
         command = record { command = command; live = subst (λ (n : ℕ). has F.start.ids n ≡ true) (sym slot) live };
         room = subst (λ (n : ℕ). n < (m.core.view i).room) (sym log) (is.room i below);
       };
-      none = none_some (m.given i) parts.0;
-      given_apart = λ j d other e. ne_eqb cmd.slot d.slot (λ same. eqb-false j i other (sym (is.own j d (given_hand (m.given j) (m.core.view j) d e)) ∙ sym same ∙ slot));
+      none = none_in_hand (m.given i) parts.0;
+      given_apart = λ j d other e. ne_eqb cmd.slot d.slot (λ same. eqb-false j i other (sym (is.own j d (hand_given (m.given j) (m.core.view j) d e)) ∙ sym same ∙ slot));
       busy_apart = λ j other busy. ne_eqb cmd.slot (m.core.view j).cmd.slot (λ same. eqb-false j i other
           (sym (is.own j (m.core.view j).cmd (busy_hand (m.given j) (m.core.view j) (λ d e. (stands.stands.pending j d e).idle) busy)) ∙ sym same ∙ slot));
     }

@@ -1,7 +1,7 @@
 -- An action over one item and a teleporter: a command may move its player to a fixed place, and takes the free item.
 use Rattle.std.specs.Prelude.{ℕ, ◌==◌, ◌%◌, ◌+◌, ◌&&◌, Bool, false, nat_le, nat_lt, if◌then◌else◌, List, [], ◌∷◌}
 use Rattle.std.specs.List.{list_any}
-use Rattle.arena_geo.specs.Vectors.{zero_vector}
+use Rattle.arena_geo.specs.Vectors.{zero_vector, is_near, is_same_vector}
 use Rattle.arena_geo.specs.Bounds.{Bounds}
 use Rattle.entity_recs.specs.declared.bodies.TheConstants.{ITEM_MINS, ITEM_MAXS}
 use Rattle.entity_recs.specs.declared.kind.Kind.{Kind}
@@ -13,13 +13,13 @@ use Rattle.entity_recs.specs.Bodies.{abs_of}
 use Rattle.entity_recs.specs.Commands.{Command}
 use Rattle.entity_recs.specs.Actions.{Meaning}
 use Rattle.core_machine.specs.Plain.{plain_command}
-use Rattle.core_seats.specs.Staying.{is_near, is_same, is_player}
+use Rattle.core_seats.specs.Staying.{is_player}
 use Rattle.core_trials.specs.declared.places.TheConstants.{ARRIVAL, ITEM}
 
 -- the item's id, place and shape
 abbrev pub is_placed : Rec → Bool
 is_placed r =
-    (r.id == 64) && is_same r.origin ITEM.origin && is_same r.mins ITEM_MINS && is_same r.maxs ITEM_MAXS
+    (r.id == 64) && is_same_vector r.origin ITEM.origin && is_same_vector r.mins ITEM_MINS && is_same_vector r.maxs ITEM_MAXS
 
 -- the item, at its place and with its shape, whatever its state
 abbrev pub is_the_item : Rec → Bool

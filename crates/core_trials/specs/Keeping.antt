@@ -1,11 +1,9 @@
 -- What the tests of records say: records that are taken can be kept, and a player that is moved is taken.
-use Rattle.std.proofs.Common.{◌≡◌, ℕ, ◌^◌, ◌<◌, ◌≤◌, nat_lt, nat_le, Bool, true, false, ◌&&◌, refl, arith}
+use Rattle.std.proofs.Common.{◌≡◌, ℕ, ◌^◌, ◌<◌, ◌≤◌, nat_lt, nat_le, Bool, true, false, refl, arith}
 use Rattle.std.specs.Prelude.{◌==◌}
-use Rattle.std.proofs.lemmas.Bool.{and_from, eqb-true, false≢true}
-use Rattle.std.proofs.lemmas.Bool.Decides.{nat_tests, Decides-int_eq}
-use Rattle.arena_geo.specs.declared.vec3.Vec3.{Vec3}
-use Rattle.arena_geo.specs.Vectors.{IsNear, zero_vector}
-use Rattle.arena_geo.proofs.Vectors.{same_parts}
+use Rattle.std.proofs.lemmas.Bool.{and_from, eqb-true, false≢true, and_parts, lt-ltb, leb-true, ltb-true}
+use Rattle.arena_geo.specs.Vectors.{IsNear, zero_vector, is_near, is_same_vector}
+use Rattle.arena_geo.proofs.Vectors.{near_by_test, same_by_test}
 use Rattle.entity_recs.specs.declared.bodies.TheConstants.{PLAYER_MINS, PLAYER_MAXS, ITEM_MINS, ITEM_MAXS}
 use Rattle.entity_recs.specs.declared.kind.Kind.{Kind}
 use Rattle.entity_recs.specs.declared.kind.Kind.TheVariants.{Player, Ammo, Gem, Teleporter, Goal, Lift}
@@ -14,36 +12,9 @@ use Rattle.entity_recs.specs.Bodies.{abs_of}
 use Rattle.entity_recs.specs.Commands.{Command}
 use Rattle.entity_recs.specs.Actions.{HasPlayer, IsKeepable}
 use Rattle.core_seats.specs.Staying as staying
-use Rattle.core_seats.specs.Staying.{is_near, is_same, is_player}
+use Rattle.core_seats.specs.Staying.{is_player}
 use Rattle.core_trials.specs.declared.places.TheConstants.{ARRIVAL, ITEM}
 use Rattle.core_trials.specs.Errand.{is_placed, is_the_item, is_taken, takes, arrived, moved_where}
-
--- ---- numbers and tests
-
-pub both : (a b : Bool) → (a && b) ≡ true → (a ≡ true) × (b ≡ true)
-both true b h = (refl, h)
-both false b h = absurd (false≢true h)
-
-at_most : (n far : ℕ) → nat_le n far ≡ true → n ≤ far
-at_most n far e = grind (arith, nat_tests)
-
-below : (n far : ℕ) → nat_lt n far ≡ true → n < far
-below n far e = grind (arith, nat_tests)
-
-is_below : (n far : ℕ) → n < far → nat_lt n far ≡ true
-is_below n far e = grind (arith, nat_tests)
-
-near_to : (far : ℕ) (v : Vec3) → is_near far v ≡ true → IsNear far v
-near_to far v h =
-    let z = both _ (nat_le _ far) h in
-    let y = both _ (nat_le _ far) z.0 in
-    record { x = at_most _ far y.0; y = at_most _ far y.1; z = at_most _ far z.1 }
-
-same : (v w : Vec3) → is_same v w ≡ true → v ≡ w
-same v w h =
-    let z = both _ _ h in
-    let y = both _ _ z.0 in
-    same_parts ((Decides-int_eq v.x w.x).0 y.0) ((Decides-int_eq v.y w.y).0 y.1) ((Decides-int_eq v.z w.z).0 z.1)
 
 -- ---- the item
 
@@ -61,24 +32,24 @@ record IsItem (r : Rec) : Type 0 where
 
 item_is : (r : Rec) → is_the_item r ≡ true → IsItem r
 item_is r h =
-    let score = both _ (nat_lt r.score 4294967296) h in
-    let carry = both _ (nat_le r.carry 8) score.0 in
-    let ammo = both _ (nat_le r.ammo 100) carry.0 in
-    let flags = both _ (nat_le r.flags 3) ammo.0 in
-    let vel = both (is_placed r) (is_near 512000 r.vel) flags.0 in
-    let maxs = both _ (is_same r.maxs ITEM_MAXS) vel.0 in
-    let mins = both _ (is_same r.mins ITEM_MINS) maxs.0 in
-    let place = both (r.id == 64) (is_same r.origin ITEM.origin) mins.0 in
+    let score = and_parts _ (nat_lt r.score 4294967296) h in
+    let carry = and_parts _ (nat_le r.carry 8) score.0 in
+    let ammo = and_parts _ (nat_le r.ammo 100) carry.0 in
+    let flags = and_parts _ (nat_le r.flags 3) ammo.0 in
+    let vel = and_parts (is_placed r) (is_near 512000 r.vel) flags.0 in
+    let maxs = and_parts _ (is_same_vector r.maxs ITEM_MAXS) vel.0 in
+    let mins = and_parts _ (is_same_vector r.mins ITEM_MINS) maxs.0 in
+    let place = and_parts (r.id == 64) (is_same_vector r.origin ITEM.origin) mins.0 in
     record {
       id = eqb-true r.id 64 place.0;
-      origin = same r.origin ITEM.origin place.1;
-      mins = same r.mins ITEM_MINS mins.1;
-      maxs = same r.maxs ITEM_MAXS maxs.1;
-      vel = near_to 512000 r.vel vel.1;
-      flags = at_most r.flags 3 flags.1;
-      ammo = at_most r.ammo 100 ammo.1;
-      carry = at_most r.carry 8 carry.1;
-      score = below r.score 4294967296 score.1;
+      origin = same_by_test r.origin ITEM.origin place.1;
+      mins = same_by_test r.mins ITEM_MINS mins.1;
+      maxs = same_by_test r.maxs ITEM_MAXS maxs.1;
+      vel = near_by_test 512000 r.vel vel.1;
+      flags = leb-true r.flags 3 flags.1;
+      ammo = leb-true r.ammo 100 ammo.1;
+      carry = leb-true r.carry 8 carry.1;
+      score = ltb-true r.score 4294967296 score.1;
     }
 
 item_is_near : IsNear 1048576 ITEM.origin
@@ -86,7 +57,7 @@ item_is_near = record { x = omega arith; y = omega arith; z = omega arith }
 
 item_is_keepable : (r : Rec) → r.kind ≡ Gem → is_taken Gem r ≡ true → IsKeepable r
 item_is_keepable r kind h =
-    let seq = both (is_the_item r) (nat_lt r.seq 4294967296) h in
+    let seq = and_parts (is_the_item r) (nat_lt r.seq 4294967296) h in
     let is = item_is r seq.0 in
     record {
       bounds = record {
@@ -99,7 +70,7 @@ item_is_keepable r kind h =
         carry = is.carry;
       };
       score = is.score;
-      seq = below r.seq 4294967296 seq.1;
+      seq = ltb-true r.seq 4294967296 seq.1;
     }
 
 pub keepable : (r : Rec) (kind : Kind) → r.kind ≡ kind → is_taken kind r ≡ true → IsKeepable r
@@ -117,7 +88,7 @@ not_64 n less e = omega (arith, less, e)
 pub item_box : (r : Rec) (kind : Kind) → r.kind ≡ kind → is_taken kind r ≡ true → r.id ≡ 64 → abs_of r ≡ abs_of ITEM
 item_box r Player e h id = absurd (not_64 r.id (player_id r e h) id)
 item_box r Gem e h id =
-    let is = item_is r (both (is_the_item r) (nat_lt r.seq 4294967296) h).0 in
+    let is = item_is r (and_parts (is_the_item r) (nat_lt r.seq 4294967296) h).0 in
     rw (e, is.origin, is.mins, is.maxs) refl
 item_box _ _ _ h _ = absurd (false≢true h)
 
@@ -127,24 +98,24 @@ item_box _ _ _ h _ = absurd (false≢true h)
 numbered : (r : Rec) (seq : ℕ) → seq < 2 ^ 32 → is_taken Player r ≡ true
     → is_taken Player (record r { seq = seq }) ≡ true
 numbered r seq small h =
-    and_from (is_player r) (nat_lt seq 4294967296) (both (is_player r) (nat_lt r.seq 4294967296) h).0
-    (is_below seq 4294967296 small)
+    and_from (is_player r) (nat_lt seq 4294967296) (and_parts (is_player r) (nat_lt r.seq 4294967296) h).0
+    (lt-ltb seq 4294967296 small)
 
 -- and at the place of arrival
 arrived_is_player : (r : Rec) → is_player r ≡ true → is_player (arrived r) ≡ true
 arrived_is_player r h =
-    let score = both _ (nat_lt r.score 4294967296) h in
-    let carry = both _ (nat_le r.carry 8) score.0 in
-    let ammo = both _ (nat_le r.ammo 100) carry.0 in
-    let flags = both _ (nat_le r.flags 3) ammo.0 in
-    let maxs = both _ (is_same r.maxs PLAYER_MAXS) flags.0 in
-    let mins = both _ (is_same r.mins PLAYER_MINS) maxs.0 in
-    let vel = both _ (is_near 512000 r.vel) mins.0 in
-    let place = both (nat_lt r.id 64) (is_near 1048576 r.origin) vel.0 in
+    let score = and_parts _ (nat_lt r.score 4294967296) h in
+    let carry = and_parts _ (nat_le r.carry 8) score.0 in
+    let ammo = and_parts _ (nat_le r.ammo 100) carry.0 in
+    let flags = and_parts _ (nat_le r.flags 3) ammo.0 in
+    let maxs = and_parts _ (is_same_vector r.maxs PLAYER_MAXS) flags.0 in
+    let mins = and_parts _ (is_same_vector r.mins PLAYER_MINS) maxs.0 in
+    let vel = and_parts _ (is_near 512000 r.vel) mins.0 in
+    let place = and_parts (nat_lt r.id 64) (is_near 1048576 r.origin) vel.0 in
     let there = and_from (nat_lt r.id 64) (is_near 1048576 ARRIVAL) place.0 refl in
     let at_rest = and_from _ (is_near 512000 zero_vector) there refl in
-    let low = and_from _ (is_same r.mins PLAYER_MINS) at_rest mins.1 in
-    let high = and_from _ (is_same r.maxs PLAYER_MAXS) low maxs.1 in
+    let low = and_from _ (is_same_vector r.mins PLAYER_MINS) at_rest mins.1 in
+    let high = and_from _ (is_same_vector r.maxs PLAYER_MAXS) low maxs.1 in
     let flagged = and_from _ (nat_le r.flags 3) high flags.1 in
     let armed = and_from _ (nat_le r.ammo 100) flagged ammo.1 in
     let carrying = and_from _ (nat_le r.carry 8) armed carry.1 in
@@ -152,14 +123,14 @@ arrived_is_player r h =
 
 pub arrived_is_taken : (r : Rec) → is_taken Player r ≡ true → is_taken Player (arrived r) ≡ true
 arrived_is_taken r h =
-    let seq = both (is_player r) (nat_lt r.seq 4294967296) h in
+    let seq = and_parts (is_player r) (nat_lt r.seq 4294967296) h in
     and_from (is_player (arrived r)) (nat_lt r.seq 4294967296) (arrived_is_player r seq.0) seq.1
 
 -- what is taken and has a slot for its id is a player
 pub slot_is_player : (r : Rec) (kind : Kind) → r.kind ≡ kind → is_taken kind r ≡ true → r.id < 64 → kind ≡ Player
 slot_is_player r Player e h small = refl
 slot_is_player r Gem e h small =
-    absurd (not_64 r.id small (item_is r (both (is_the_item r) (nat_lt r.seq 4294967296) h).0).id)
+    absurd (not_64 r.id small (item_is r (and_parts (is_the_item r) (nat_lt r.seq 4294967296) h).0).id)
 slot_is_player _ _ _ h _ = absurd (false≢true h)
 
 -- the player of a command

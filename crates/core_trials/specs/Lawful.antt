@@ -1,10 +1,9 @@
 -- The laws of the action over one item and a teleporter.
-use Rattle.std.proofs.Common.{◌≡◌, ◌+◌, Bool, true, false, ◌&&◌, ◌||◌, cond, ℤ, int_le, List}
-use Rattle.std.proofs.Common.{[], ◌∷◌, filter, All, refl, sym, ap, ◌∙◌, inl, inr, arith}
+use Rattle.std.proofs.Common.{◌≡◌, ◌+◌, Bool, true, false, ◌&&◌, ◌||◌, cond, List, []}
+use Rattle.std.proofs.Common.{◌∷◌, filter, All, refl, sym, ap, ◌∙◌, inl, inr, arith}
 use Rattle.std.specs.Prelude.{◌==◌, ◌%◌}
 use Rattle.std.specs.List.{list_any, AllByRecursion, IsDistinct}
-use Rattle.std.proofs.lemmas.Bool.{and_from, or_left, or_right, or_cases, cases_Bool, eqb-true, false≢true}
-use Rattle.std.proofs.lemmas.Int.{ints}
+use Rattle.std.proofs.lemmas.Bool.{and_from, or_left, or_right, or_cases, cases_Bool, eqb-true, false≢true, and_parts}
 use Rattle.std.proofs.lemmas.List.Elements.{All-cons, All-nil, recursion_from_All}
 use Rattle.arena_geo.specs.Bounds.{Bounds, IsBox}
 use Rattle.arena_geo.specs.Boxes.{touches}
@@ -18,10 +17,11 @@ use Rattle.entity_recs.specs.Commands.{Command}
 use Rattle.entity_recs.specs.Actions.{touching, IsCall, HasPlayer, HasValidity}
 use Rattle.entity_recs.specs.Actions.{HasLocality, HasFootprint, StaysWithin, is_of_one_inside}
 use Rattle.entity_recs.proofs.Standing.{records_have_boxes}
+use Rattle.core_seats.specs.Staying.{least_itself}
 use Rattle.core_trials.specs.declared.places.TheConstants.{ITEM}
 use Rattle.core_trials.specs.Errand.{takes, arrived, region_of, moved_where}
 use Rattle.core_trials.specs.Errand.{is_free_item, new_states, effect_where, effect_of}
-use Rattle.core_trials.specs.Keeping.{both, keepable, item_box, mover, moved_is_taken, arrived_is_taken, stated}
+use Rattle.core_trials.specs.Keeping.{keepable, item_box, mover, moved_is_taken, arrived_is_taken, stated}
 
 -- ---- validity
 
@@ -50,7 +50,7 @@ any_kept P test kept keeps (r ∷ rs) all = by (kept r) refl (any_kept P test ke
     ]
 
 free_item_box : (r : Rec) → takes r ≡ true → is_free_item r ≡ true → abs_of r ≡ abs_of ITEM
-free_item_box r taken free = item_box r r.kind refl taken (eqb-true r.id 64 (both (r.id == 64) (r.state == 0) free).0)
+free_item_box r taken free = item_box r r.kind refl taken (eqb-true r.id 64 (and_parts (r.id == 64) (r.state == 0) free).0)
 
 item_is_touched : (a b : Bounds) → touches_region (abs_of ITEM) (a ∷ b ∷ abs_of ITEM ∷ []) ≡ true
 item_is_touched a b =
@@ -73,9 +73,6 @@ errand_is_local = record {
 }
 
 -- ---- footprint
-
-least_itself : (n : ℤ) → int_le n n ≡ true
-least_itself n = grind (arith, ints)
 
 first_inside : (a : Bounds) (rest : List Bounds) → is_inside a (a ∷ rest) ≡ true
 first_inside a rest =
@@ -119,7 +116,7 @@ module _ (me : Rec) (near : List Rec) (c : Command) (call : IsCall takes me near
   item_inside : (r : Rec) → takes r ≡ true → is_free_item r ≡ true
       → ((r.id == 64) && is_inside (abs_of r) (region_of me c)) ≡ true
   item_inside r taken free =
-      and_from (r.id == 64) _ (both (r.id == 64) (r.state == 0) free).0
+      and_from (r.id == 64) _ (and_parts (r.id == 64) (r.state == 0) free).0
       (ap (λ b. is_inside b (region_of me c)) (free_item_box r taken free)
       ∙ later_inside (abs_of me) (abs_of ITEM) (abs_of (arrived me) ∷ abs_of ITEM ∷ [])
       (later_inside (abs_of (arrived me)) (abs_of ITEM) (abs_of ITEM ∷ []) (first_inside (abs_of ITEM) [])))

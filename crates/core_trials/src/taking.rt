@@ -1,4 +1,5 @@
 ghost use Rattle.std.specs.Prelude.{◌≡◌, nat_lt};
+ghost use Rattle.arena_geo.specs.Vectors as vectors;
 ghost use Rattle.core_seats.specs.Staying as staying;
 ghost use Rattle.core_trials.specs.Errand as errands;
 
@@ -8,7 +9,7 @@ use entity_recs::{ITEM_MAXS, ITEM_MINS, Kind, PLAYER_MAXS, PLAYER_MINS, Rec};
 
 /// Whether each part is at most `far` from 0.
 fn is_near(v: &Vec3, far: u32) -> bool
-    ensures { result ≡ staying.is_near far v.now }
+    ensures { result ≡ vectors.is_near far v.now }
 {
     v.x.unsigned_abs() <= far && v.y.unsigned_abs() <= far && v.z.unsigned_abs() <= far
 }

@@ -3,18 +3,16 @@ use Rattle.std.proofs.Common.{◌≡◌, ℕ, true, ◌⊎◌, inl, inr, List, [
 use Rattle.std.specs.List.{AllByRecursion}
 use Rattle.edge_io.specs.Lines.{HasNoLineFeed}
 use Rattle.edge_io.specs.WholeLines.{unlines}
-use Rattle.demo_lines.specs.declared.stage.Stage.{Stage}
-use Rattle.demo_lines.specs.declared.stage.Stage.TheVariants.{Start, Map, Playing, Ended, Refused}
 use Rattle.demo_lines.specs.declared.event.Event.{Event}
 use Rattle.demo_lines.specs.Known.{Reading, is_over}
 use Rattle.demo_lines.specs.Lines.{is_end}
 use Rattle.demo_lines.specs.Recording.{next, events_of_line, after, events_of}
-use Rattle.demo_lines.specs.Bytes.{last_part, lines_of, refused_at, refused_where, events_in, fault_in}
+use Rattle.demo_lines.specs.Bytes.{last_part, lines_of, refused_where, events_in, fault_in}
 use Rattle.demo_lines.specs.Reads.{Reads, IsTextOf}
 use Rattle.demo_lines.proofs.Machines.{run_of-append, outputs_of-append}
 use Rattle.demo_lines.proofs.Parts.{lines_of-unlines, lines_of-none, last_part-unlines}
 use Rattle.demo_lines.proofs.Ends.{after-over}
-use Rattle.demo_lines.proofs.Prefixes.{after_last}
+use Rattle.demo_lines.proofs.Prefixes.{after_last, refused_at-over}
 
 -- a recording that begins so, and goes on with these bytes
 pub record Continues (first r : Reading) (es : List Event) (bytes rest : List ℕ) : Type 0 where
@@ -28,14 +26,7 @@ pub record IsCutAt (r : Reading) (lines : List (List ℕ)) (bytes rest : List �
   pub lines_are : lines_of bytes ≡ lines ++ lines_of rest
   pub last_is : (last_part bytes ≡ last_part rest) ⊎ (is_over r.stage ≡ true)
 
-refused_at-over : (stage : Stage) (r : Reading) (p q : List ℕ) → is_over stage ≡ true → refused_at stage r p ≡ refused_at stage r q
-refused_at-over Start r p q over = cc
-refused_at-over Map r p q over = cc
-refused_at-over Playing r p q over = cc
-refused_at-over Ended r p q over = refl
-refused_at-over (Refused why) r p q over = refl
-
-same_refusal : (r : Reading) (lines : List (List ℕ)) (p q : List ℕ) → (p ≡ q) ⊎ (is_over r.stage ≡ true) → refused_where (after r lines) p ≡ refused_where (after r lines) q
+pub same_refusal : (r : Reading) (lines : List (List ℕ)) (p q : List ℕ) → (p ≡ q) ⊎ (is_over r.stage ≡ true) → refused_where (after r lines) p ≡ refused_where (after r lines) q
 same_refusal r lines p q (inl same) = ap (refused_where (after r lines)) same
 same_refusal r lines p q (inr over) =
     let here : is_over (after r lines).stage ≡ true = ap (λ (t : Reading). is_over t.stage) (after-over r lines over) ∙ over in

@@ -6,7 +6,7 @@ use Rattle.demo_lines.specs.Recording.{next, after}
 use Rattle.demo_lines.proofs.Ends.{next-counts, after-over}
 
 -- what isn't over after lines wasn't over before them
-going-before : (r : Reading) (lines : List (List ℕ)) → is_over (after r lines).stage ≡ false → is_over r.stage ≡ false
+pub going-before : (r : Reading) (lines : List (List ℕ)) → is_over (after r lines).stage ≡ false → is_over r.stage ≡ false
 going-before r lines going = by (is_over r.stage) refl
   where
     by : (over : Bool) → is_over r.stage ≡ over → is_over r.stage ≡ false

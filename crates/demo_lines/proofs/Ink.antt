@@ -1,5 +1,5 @@
 -- The bytes of written lines: all are printed, so none is a line feed or a carriage return.
-use Rattle.std.proofs.Common.{◌≡◌, ℕ, zero, suc, ◌-◌, ◌^◌, ◌≤◌, ◌<◌, ◌/◌, ◌%◌, ◌==◌, ◌&&◌, Bool, true, false, slice_index, nat_le, List, [], ◌∷◌, ◌++◌, length, take, drop, cond, codes, bytes_eq, refl, ap, subst, arith, ℤ, ◌≤ℤ◌, pos, negsuc, decimal, unsigned_abs, rules}
+use Rattle.std.proofs.Common.{◌≡◌, ℕ, zero, suc, ◌-◌, ◌^◌, ◌≤◌, ◌<◌, ◌/◌, ◌%◌, ◌==◌, Bool, true, false, slice_index, nat_le, List, [], ◌∷◌, ◌++◌, length, take, drop, cond, codes, bytes_eq, refl, ap, subst, arith, ℤ, ◌≤ℤ◌, pos, negsuc, decimal, unsigned_abs, rules}
 use Rattle.std.specs.Fmt.{signed_decimal}
 use Rattle.std.specs.List.{AllByRecursion}
 use Rattle.std.specs.Str.{all_ascii_digits}
@@ -7,10 +7,11 @@ use Rattle.std.proofs.lemmas.Bool.Decides.{nat_tests}
 use Rattle.std.proofs.lemmas.Int.{ints}
 use Rattle.std.proofs.lemmas.Fmt.{digits_decimal}
 use Rattle.std.proofs.lemmas.List.Elements.{All-get_or, All-head, All-tail, All-from_recursion}
+use Rattle.std.proofs.lemmas.Bool.{and_from, and_parts}
 use Rattle.edge_io.specs.Lines.{AreBytes, HasNoLineFeed}
 use Rattle.edge_io.specs.Numbers.{is_digit}
 use Rattle.edge_io.specs.Fields.{field_text}
-use Rattle.edge_io.proofs.Decimals.{own, and_parts}
+use Rattle.edge_io.proofs.Decimals.{own}
 use Rattle.edge_io.proofs.Feeds.{each_of_both}
 use Rattle.edge_io.proofs.FieldTexts.{AreAbove}
 use Rattle.hex.specs.Hex.{encode_with, lower_digits}
@@ -45,13 +46,9 @@ ink-append xs ys p q = each_of_both IsInk xs ys p q
 ink-printable : (b : ℕ) → IsInk b → is_printable b ≡ true
 ink-printable b ink = let low : 32 ≤ b = ink.0 in let high : b ≤ 126 = ink.1 in grind (arith, nat_tests)
 
-both : (a b : Bool) → a ≡ true → b ≡ true → (a && b) ≡ true
-both true b p q = q
-both false b p q = cc
-
 pub are-printable : (bytes : List ℕ) → AreInk bytes → are_printable bytes ≡ true
 are-printable [] ink = refl
-are-printable (b ∷ bytes) ink = both (is_printable b) (are_printable bytes) (ink-printable b ink.0) (are-printable bytes ink.1)
+are-printable (b ∷ bytes) ink = and_from (is_printable b) (are_printable bytes) (ink-printable b ink.0) (are-printable bytes ink.1)
 
 no_feed : (b : ℕ) → IsInk b → (b == 10) ≡ false
 no_feed b ink = let low : 32 ≤ b = ink.0 in grind (arith, nat_tests)

@@ -1,9 +1,10 @@
 -- A line is read back exactly where it can be written.
-use Rattle.std.proofs.Common.{◌≡◌, ℕ, ◌≤◌, ◌<◌, ◌==◌, Bool, true, false, List, [], length, Option, Some, None, Result, Ok, Err, unwrap_or, option_map, cond, codes, bytes_eq, refl, sym, ap, ◌∙◌, subst, arith}
+use Rattle.std.proofs.Common.{◌≡◌, ℕ, ◌≤◌, ◌<◌, ◌==◌, Bool, true, false, List, [], length, Option, Some, None, Result, Ok, Err, option_map, cond, codes, bytes_eq, refl, sym, ap, ◌∙◌, subst, arith}
 use Rattle.std.specs.Option.{ok_or}
 use Rattle.std.specs.Result.{result_ok}
 use Rattle.std.proofs.lemmas.Bool.Decides.{nat_tests}
 use Rattle.std.proofs.lemmas.List.Elements.{All-from_get_or, All-nil}
+use Rattle.std.proofs.lemmas.Option.{same_Some}
 use Rattle.hex.specs.Hex.{decode_of}
 use Rattle.hex.specs.declared.error.FromHexError.{FromHexError}
 use Rattle.hex.proofs.HexLemmas.{decode_of-ok}
@@ -31,9 +32,6 @@ use Rattle.demo_lines.specs.Spelling.{line_text, IsLine}
 use Rattle.demo_lines.specs.Laws.{LinesReadBack, IsReadAs}
 use Rattle.demo_lines.proofs.Written.{line_reads, is_read_as}
 
-same : {A : Type 0} (a b : A) → Some a ≡ Some b → a ≡ b
-same a b e = ap (λ o. unwrap_or o a) e
-
 -- ---- a packet's bytes
 
 packet_are : (text bytes : List ℕ) → packet_bytes text ≡ Some bytes → AreBytes bytes
@@ -41,12 +39,12 @@ packet_are text bytes h = by (bytes_eq text (codes "-")) (length text == 0) h
   where
     read : (o : Result (List ℕ) FromHexError) → decode_of text ≡ o → result_ok o ≡ Some bytes → AreBytes bytes
     read (Ok bs) is e =
-        let one = same bs bytes e in
+        let one = same_Some bs bytes e in
         subst AreBytes one (All-from_get_or (λ b. b < 256) bs 0 (λ i within. (decode_of-ok text bs is).3 i))
     read (Err x) is e = cc
 
     by : (dash none : Bool) → cond dash (Some []) (cond none None (result_ok (decode_of text))) ≡ Some bytes → AreBytes bytes
-    by true none e = subst AreBytes (same [] bytes e) (All-nil (λ b. b < 256))
+    by true none e = subst AreBytes (same_Some [] bytes e) (All-nil (λ b. b < 256))
     by false true e = cc
     by false false e = read (decode_of text) refl e
 
@@ -97,7 +95,7 @@ values-sound : (port_text packet : List ℕ) (port : Option ℕ) (bytes : Option
     → port >>= (λ p. bytes >>= (λ b. Some (From (record { port = p; bytes = b })))) ≡ Some line → IsSound line
 values-sound port_text packet None bytes line p q h = cc
 values-sound port_text packet (Some port) None line p q h = cc
-values-sound port_text packet (Some port) (Some bytes) line p q h = subst IsSound (same _ line h) (port_sound port_text port p, packet_are packet bytes q)
+values-sound port_text packet (Some port) (Some bytes) line p q h = subst IsSound (same_Some _ line h) (port_sound port_text port p, packet_are packet bytes q)
 
 from-sound : (fields : Option (List ℕ × List ℕ)) (line : Line)
     → (fields >>= (λ f. natural_up_to 65535 f.0)) >>= (λ p. (fields >>= (λ f. packet_bytes f.1)) >>= (λ b. Some (From (record { port = p; bytes = b })))) ≡ Some line → IsSound line
@@ -106,13 +104,13 @@ from-sound (Some fs) line h = values-sound fs.0 fs.1 (natural_up_to 65535 fs.0) 
 
 map-sound : (within : Option MapLine) (line : Line) → option_map OfMap within ≡ Some line → IsSound line
 map-sound None line h = cc
-map-sound (Some l) line h = subst IsSound (same (OfMap l) line h) tt
+map-sound (Some l) line h = subst IsSound (same_Some (OfMap l) line h) tt
 
 word-sound : (word : Word) (rest : List ℕ) (line : Line) → line_of word rest ≡ Some line → IsSound line
 word-sound (words.OfMap word) rest line h = map-sound (line_within word rest) line h
-word-sound words.Frame rest line h = subst IsSound (same Frame line h) tt
+word-sound words.Frame rest line h = subst IsSound (same_Some Frame line h) tt
 word-sound words.From rest line h = from-sound (from_fields rest) line h
-word-sound words.End rest line h = subst IsSound (same End line h) tt
+word-sound words.End rest line h = subst IsSound (same_Some End line h) tt
 
 -- ---- the limits of the map
 

@@ -5,8 +5,9 @@ use Rattle.std.proofs.lemmas.Bool.Decides.{nat_tests}
 use Rattle.std.proofs.lemmas.Int.{ints}
 use Rattle.std.proofs.lemmas.List.{length-map}
 use Rattle.std.proofs.lemmas.List.Kept.{AllPairs-cons}
-use Rattle.std.proofs.lemmas.List.Sums.{sum_by-append, sum_by-cons}
+use Rattle.std.proofs.lemmas.List.Sums.{sum_by-append}
 use Rattle.std.proofs.lemmas.List.Elements.{All-from_recursion, filter_map-append}
+use Rattle.std.proofs.lemmas.Bool.{and_from}
 use Rattle.edge_io.proofs.Feeds.{each_of_both}
 use Rattle.arena_geo.specs.declared.vec3.Vec3.{Vec3}
 use Rattle.arena_geo.specs.Bounds.{Bounds}
@@ -18,6 +19,7 @@ use Rattle.arena_map.specs.declared.map_line.MapLine.TheVariants.{Item, Teleport
 use Rattle.arena_map.specs.MapLines.{is_item_line, is_teleport_line, is_goal_line, is_lift_line}
 use Rattle.arena_map.specs.Places.{shaft, shaft_of}
 use Rattle.arena_map.specs.Maps.{MapView, IsSpawn, IsBlock, IsThingInside, IsMap, map_of}
+use Rattle.arena_map.proofs.Counting.{count-cons}
 use Rattle.packet_read.specs.declared.arrival.Arrival.{Arrival}
 use Rattle.demo_lines.specs.declared.line.Line.TheVariants.{OfMap, From, End}
 use Rattle.demo_lines.specs.Spelling.{IsArrival, IsFrame, IsRecording, frame_lines, map_lines, recording_lines, setting_lines, block_line, spawn_line, small_map}
@@ -46,9 +48,6 @@ unfolding copies
 length-flat_map-copies f zero x = omega arith
 length-flat_map-copies f (suc n) x = omega (arith, length-append (f x) (flat_map f (copies n x)), length-flat_map-copies f n x)
 
-count-cons : (p : MapLine → Bool) (line : MapLine) (lines : List MapLine) → count_by p (line ∷ lines) ≡ cond (p line) 1 0 + count_by p lines
-count-cons p line lines = sum_by-cons (λ l. cond (p l) 1 0) line lines
-
 count-both : (p : MapLine → Bool) (xs ys : List MapLine) → count_by p (xs ++ ys) ≡ count_by p xs + count_by p ys
 count-both p xs ys = sum_by-append (λ l. cond (p l) 1 0) xs ys
 
@@ -70,10 +69,6 @@ free-copies : (n : ℕ) (s b : Bounds) → overlaps s b ≡ false → is_blocked
 unfolding copies
 free-copies zero s b free = refl
 free-copies (suc n) s b free = ap (λ x. x || is_blocked s (copies n b)) free ∙ free-copies n s b free
-
-both : (a b : Bool) → a ≡ true → b ≡ true → (a && b) ≡ true
-both true b p q = q
-both false b p q = cc
 
 -- ---- lifts beside each other
 
@@ -160,10 +155,10 @@ lift_inside n below =
         omega (arith, ints),
         omega (arith, ints),
       );
-      inside = both _ _ (ap (λ b. (b && true) && true) thick) (ap (λ b. (b && true) && true) (both _ _ low high));
+      inside = and_from _ _ (ap (λ b. (b && true) && true) thick) (ap (λ b. (b && true) && true) (and_from _ _ low high));
       stand = refl;
       item = refl;
-      travel = ap (λ b. (b && true) && true) (both _ _ low_up high_up);
+      travel = ap (λ b. (b && true) && true) (and_from _ _ low_up high_up);
     }
 
 -- ---- the other things

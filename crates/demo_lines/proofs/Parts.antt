@@ -1,8 +1,9 @@
 -- The lines of bytes, and what no line feed ends after them.
-use Rattle.std.proofs.Common.{◌≡◌, ℕ, suc, ◌+◌, ◌-◌, ◌≤◌, ◌<◌, Bool, true, false, ◌&&◌, List, [], ◌∷◌, ◌++◌, ◌⊎◌, inl, inr, length, take, cond, codes, bytes_eq, refl, sym, ap, ◌∙◌, arith, append_assoc, length-take}
+use Rattle.std.proofs.Common.{◌≡◌, ℕ, suc, ◌+◌, ◌-◌, ◌≤◌, ◌<◌, Bool, true, false, List, [], ◌∷◌, ◌++◌, ◌⊎◌, inl, inr, length, take, cond, codes, bytes_eq, refl, sym, ap, ◌∙◌, arith, append_assoc, length-take}
 use Rattle.std.specs.List.{slice_split, onto_first, AllByRecursion}
 use Rattle.std.proofs.lemmas.List.Splits.{slice_split_none, slice_split_at, slice_split-cons_no}
 use Rattle.std.proofs.lemmas.List.Elements.{recursion_from_All}
+use Rattle.std.proofs.lemmas.Bool.{and_parts}
 use Rattle.edge_io.specs.Lines.{HasNoLineFeed}
 use Rattle.edge_io.specs.WholeLines.{is_line_feed, all_but_last, whole_lines, unlines}
 use Rattle.edge_io.proofs.Feeds.{BeginsWith, parts_begin, whole_lines-unlines, whole_lines-none}
@@ -38,15 +39,11 @@ lines_of-none part none = ap (λ ls. ls ++ cut_end (last_part part)) (whole_line
 
 -- ---- the end
 
-and_second : (a b : Bool) → (a && b) ≡ true → b ≡ true
-and_second true b h = h
-and_second false b h = cc
-
 bytes_eq-length : (xs ys : List ℕ) → bytes_eq xs ys ≡ true → length xs ≡ length ys
 bytes_eq-length [] [] h = refl
 bytes_eq-length [] (y ∷ ys) h = cc
 bytes_eq-length (x ∷ xs) [] h = cc
-bytes_eq-length (x ∷ xs) (y ∷ ys) h = ap suc (bytes_eq-length xs ys (and_second _ _ h))
+bytes_eq-length (x ∷ xs) (y ∷ ys) h = ap suc (bytes_eq-length xs ys (and_parts _ _ h).1)
 
 text_of-length : (b : Bool) (raw : List ℕ) → length raw ≤ length (cond b (take (length raw - 1) raw) raw) + 1
 text_of-length true raw = omega (arith, length-take (length raw - 1) raw)

@@ -1,7 +1,8 @@
 -- Bytes after bytes: what they add.
-use Rattle.std.proofs.Common.{◌≡◌, ℕ, Bool, true, false, not, ◌==◌, ◌&&◌, List, [], ◌∷◌, ◌++◌, Option, Some, None, option_map, codes, bytes_eq, cond, refl, sym, ap, ◌∙◌, arith, append_assoc, append-nil}
+use Rattle.std.proofs.Common.{◌≡◌, ℕ, Bool, true, false, not, ◌==◌, List, [], ◌∷◌, ◌++◌, Option, Some, None, option_map, codes, bytes_eq, cond, refl, sym, ap, ◌∙◌, arith, append_assoc, append-nil}
 use Rattle.std.specs.List.{slice_split, onto_first}
 use Rattle.std.proofs.lemmas.Bool.Decides.{nat_tests}
+use Rattle.std.proofs.lemmas.Bool.{and_parts}
 use Rattle.demo_lines.specs.declared.stage.Stage.{Stage}
 use Rattle.demo_lines.specs.declared.stage.Stage.TheVariants.{Start, Map, Playing, Ended, Refused}
 use Rattle.demo_lines.specs.declared.line.Line.{Line}
@@ -54,7 +55,7 @@ lines_of-more bytes more =
 
 -- ---- where the rest is ignored
 
-refused_at-over : (stage : Stage) (r : Reading) (p q : List ℕ) → is_over stage ≡ true → refused_at stage r p ≡ refused_at stage r q
+pub refused_at-over : (stage : Stage) (r : Reading) (p q : List ℕ) → is_over stage ≡ true → refused_at stage r p ≡ refused_at stage r q
 refused_at-over Start r p q over = cc
 refused_at-over Map r p q over = cc
 refused_at-over Playing r p q over = cc
@@ -150,15 +151,7 @@ cut-extends bytes more end =
           ∙ ap (λ ls. ls ++ (whole_lines more ++ rest)) (sym short);
     }
 
-and_first : (a b : Bool) → (a && b) ≡ true → a ≡ true
-and_first true b h = refl
-and_first false b h = cc
-
-and_second : (a b : Bool) → (a && b) ≡ true → b ≡ true
-and_second true b h = h
-and_second false b h = cc
-
-no_refusal : (o : Option LineFault) (line : ℕ) → option_map (refusal line) o ≡ None → o ≡ None
+pub no_refusal : (o : Option LineFault) (line : ℕ) → option_map (refusal line) o ≡ None → o ≡ None
 no_refusal None line h = refl
 no_refusal (Some why) line h = cc
 
@@ -185,8 +178,8 @@ bytes_eq-same [] [] h = refl
 bytes_eq-same [] (y ∷ ys) h = cc
 bytes_eq-same (x ∷ xs) [] h = cc
 bytes_eq-same (x ∷ xs) (y ∷ ys) h =
-    let same : x ≡ y = grind (arith, nat_tests, and_first (x == y) (bytes_eq xs ys) h) in
-    ap (λ z. z ∷ xs) same ∙ ap (λ zs. y ∷ zs) (bytes_eq-same xs ys (and_second (x == y) (bytes_eq xs ys) h))
+    let same : x ≡ y = grind (arith, nat_tests, (and_parts (x == y) (bytes_eq xs ys) h).0) in
+    ap (λ z. z ∷ xs) same ∙ ap (λ zs. y ∷ zs) (bytes_eq-same xs ys (and_parts (x == y) (bytes_eq xs ys) h).1)
 
 pub end_says : (raw : List ℕ) → is_end raw ≡ true → line_in raw ≡ Some End
 end_says raw end = ap (λ text. line_of_first (first_word text) (rest_of text)) (bytes_eq-same (text_of raw) (codes "end") end)

@@ -1,5 +1,5 @@
 -- A recording that was written is read as what was written.
-use Rattle.std.proofs.Common.{◌≡◌, ℕ, ◌+◌, ◌≤◌, ◌<◌, ◌≤ℤ◌, ◌==◌, Bool, true, false, not, ◌&&◌, nat_le, nat_lt, List, [], ◌∷◌, ◌++◌, length, fold, map, flat_map, filter_map, count_by, Some, None, option_map, cond, refl, sym, ap, ◌∙◌, subst, arith, ℤ, unsigned_abs, append_assoc, append-nil, length-append, All}
+use Rattle.std.proofs.Common.{◌≡◌, ℕ, ◌+◌, ◌≤◌, ◌<◌, ◌≤ℤ◌, ◌==◌, Bool, true, false, not, ◌&&◌, nat_le, List, [], ◌∷◌, ◌++◌, length, fold, map, flat_map, filter_map, count_by, Some, None, option_map, cond, refl, sym, ap, ◌∙◌, subst, arith, ℤ, unsigned_abs, append_assoc, append-nil, length-append, All}
 use Rattle.std.specs.Option.{option_or}
 use Rattle.std.specs.Result.{result_ok}
 use Rattle.std.specs.List.{AllByRecursion, AllPairs}
@@ -11,6 +11,7 @@ use Rattle.std.proofs.lemmas.List.Folds.{list_any_none}
 use Rattle.std.proofs.lemmas.List.Elements.{recursion_from_All, filter_map-append}
 use Rattle.std.proofs.Math.ListN.{get_or-append}
 use Rattle.std.proofs.Math.Seq.{get_or-append_seam}
+use Rattle.std.proofs.lemmas.Bool.{and_from, lt-ltb}
 use Rattle.edge_io.specs.Lines.{HasNoLineFeed}
 use Rattle.edge_io.specs.WholeLines.{unlines}
 use Rattle.edge_io.proofs.Feeds.{each_of_both}
@@ -27,7 +28,7 @@ use Rattle.arena_map.specs.Places.{is_thick, shaft, shaft_of, keeps_box, keeps_s
 use Rattle.arena_map.specs.MapLines.{is_thing_line, is_arena, is_item_line, is_teleport_line, is_goal_line, is_lift_line}
 use Rattle.arena_map.specs.Maps.{MapView, plain_map, IsMap, IsBlock, IsSpawn, IsThingInside, is_ready}
 use Rattle.arena_map.specs.Rules.{with_line, broken_rule, keeps_count, keeps_shafts, meets_shaft}
-use Rattle.arena_map.proofs.Keeping.{KeepsAll}
+use Rattle.arena_map.proofs.Keeping.{KeepsAll, none_yet}
 use Rattle.packet_read.specs.declared.arrival.Arrival.{Arrival}
 use Rattle.demo_lines.specs.declared.stage.Stage.TheVariants.{Map, Playing, Ended}
 use Rattle.demo_lines.specs.declared.line.Line.{Line}
@@ -108,12 +109,12 @@ abbrev ended : MapView → ℕ × ℕ × ℕ → Reading
 ended m at = record { stage = Ended; map = Some m; limit = 100000; frames = at.0; arrivals = at.1; lines = at.2 }
 
 -- the map with these parts alone, and with its settings
-abbrev filled : MapView → List Bounds → List Vec3 → List MapLine → MapView
+abbrev pub filled : MapView → List Bounds → List Vec3 → List MapLine → MapView
 filled full blocks spawns things = record full { blocks = blocks; spawns = spawns; things = things }
 
 -- ---- the map
 
-near_on : (lo hi l h : ℤ) → unsigned_abs lo ≤ 1048576 → unsigned_abs hi ≤ 1048576 → l ≤ℤ h → contains_on lo hi l h ≡ true
+pub near_on : (lo hi l h : ℤ) → unsigned_abs lo ≤ 1048576 → unsigned_abs hi ≤ 1048576 → l ≤ℤ h → contains_on lo hi l h ≡ true
     → (unsigned_abs l ≤ 1048576) × (unsigned_abs h ≤ 1048576)
 near_on lo hi l h near_lo near_hi ordered inside =
     let low : lo ≤ℤ l = grind (arith, ints) in
@@ -121,7 +122,7 @@ near_on lo hi l h near_lo near_hi ordered inside =
     (omega (arith, ints), omega (arith, ints))
 
 -- a block inside an arena that is near is near
-block_near : (arena b : Bounds) → IsNear 1048576 arena.lo → IsNear 1048576 arena.hi → IsBlock arena b → IsNear 1048576 b.lo × IsNear 1048576 b.hi
+pub block_near : (arena b : Bounds) → IsNear 1048576 arena.lo → IsNear 1048576 arena.hi → IsBlock arena b → IsNear 1048576 b.lo × IsNear 1048576 b.hi
 block_near arena b lo hi is =
     let t = three_pass _ _ _ is.inside in
     let x = near_on arena.lo.x arena.hi.x b.lo.x b.hi.x lo.x hi.x is.is_box.ordered.x t.x in
@@ -149,10 +150,6 @@ kept-fault map line keeps =
     (none-by (keeps_box map.bounds line) (keeps_count map line) (keeps_stand map.bounds line) (keeps_item map.bounds line) (keeps_travel map.bounds line) (keeps_shafts map line)
     keeps.inside keeps.count keeps.stand keeps.item keeps.travel keeps.shafts)
 
-both : (a b : Bool) → a ≡ true → b ≡ true → (a && b) ≡ true
-both true b p q = q
-both false b p q = cc
-
 -- the line of an arena that is wide enough breaks no rule
 arena_passes : (b : Bool) → b ≡ true → option_map faults.Rule (cond b None (Some fault.Arena)) ≡ None
 arena_passes true h = refl
@@ -163,9 +160,6 @@ count-split p done rest line =
     let whole = sum_by-append (λ l. cond (p l) 1 0) done (line ∷ rest) in
     let one = sum_by-cons (λ l. cond (p l) 1 0) line rest in
     omega (arith, whole, one)
-
-below : (n limit : ℕ) → n < limit → nat_lt n limit ≡ true
-below n limit h = grind (arith, nat_tests)
 
 pairs-before : {X : Type 0} (R : X → X → Type 0) (xs : List X) (s : X) (ys : List X) → AllPairs R (xs ++ s ∷ ys) → All (λ x. R x s) xs
 pairs-before R xs s ys pairs k d within =
@@ -185,8 +179,8 @@ module _ (full : MapView) (lo : IsNear 1048576 full.bounds.lo) (hi : IsNear 1048
   goes_block spawns done b n is few =
       let m = filled full done spawns [] in
       let keeps : KeepsAll m (Block b.lo b.hi) = record {
-        inside = both (is_thick b.lo b.hi) (contains full.bounds b) is.thick is.inside;
-        count = below (length done) MOST_BLOCKS few;
+        inside = and_from (is_thick b.lo b.hi) (contains full.bounds b) is.thick is.inside;
+        count = lt-ltb (length done) MOST_BLOCKS few;
         stand = refl;
         item = refl;
         travel = refl;
@@ -212,7 +206,7 @@ module _ (full : MapView) (lo : IsNear 1048576 full.bounds.lo) (hi : IsNear 1048
       → Goes (mapping (filled full [] done []) n) (spawn_line at ∷ []) (mapping (filled full [] (done ++ at ∷ []) [])) []
   goes_spawn done at n is few =
       let m = filled full [] done [] in
-      let keeps : KeepsAll m (Spawn at) = record { inside = refl; count = below (length done) MOST_SPAWNS few; stand = is.inside; item = refl; travel = refl; shafts = refl } in
+      let keeps : KeepsAll m (Spawn at) = record { inside = refl; count = lt-ltb (length done) MOST_SPAWNS few; stand = is.inside; item = refl; travel = refl; shafts = refl } in
       goes-line (mapping m n) (spawn_line at) (mapping (filled full [] (done ++ at ∷ []) [])) (n + 1) is.near refl refl (kept-fault m (Spawn at) keeps) refl
 
   goes_spawns : (done spawns : List Vec3) (n : ℕ) → AllByRecursion (IsSpawn full.bounds) spawns → length done + length spawns ≤ MOST_SPAWNS
@@ -231,16 +225,13 @@ module _ (full : MapView) (lo : IsNear 1048576 full.bounds.lo) (hi : IsNear 1048
 -- ---- the settings
 
 -- the map of an arena with these settings and nothing in it
-abbrev set : Bounds → ℕ → ℕ → Bool → ℕ → MapView
+abbrev pub set : Bounds → ℕ → ℕ → Bool → ℕ → MapView
 set arena depth depth_lines shots shots_lines =
     record (plain_map arena [] [] []) { depth = depth; depth_lines = depth_lines; shots = shots; shots_lines = shots_lines }
 
 -- with the depth alone
 abbrev deep : MapView → MapView
 deep full = set full.bounds full.depth full.depth_lines false 0
-
-no-line : (n : ℕ) → (n == 0) ≡ true → n ≡ 0
-no-line n h = grind (arith, nat_tests)
 
 one-line : (n : ℕ) → n ≤ 1 → (n == 0) ≡ false → 1 ≡ n
 one-line n few h = grind (arith, nat_tests)
@@ -252,7 +243,7 @@ goes_depth full n is = by (full.depth_lines == 0) refl
     by : (none : Bool) → (full.depth_lines == 0) ≡ none
         → Goes (mapping (plain_map full.bounds [] [] []) n) (map OfMap (cond none [] (Depth full.depth ∷ []))) (mapping (deep full)) []
     by true h =
-        let none = no-line full.depth_lines h in
+        let none = none_yet full.depth_lines h in
         let P : MapView → Type 0 = λ m. Goes (mapping (plain_map full.bounds [] [] []) n) [] (mapping m) [] in
         let same : plain_map full.bounds [] [] [] ≡ deep full =
         ap (λ d. set full.bounds d 0 false 0) (sym (is.default_depth none)) ∙ ap (λ l. set full.bounds full.depth l false 0) (sym none) in
@@ -323,13 +314,13 @@ module _ (full : MapView) (is : IsMap full) where
   thing-count done rest (Depth depth) whole thing = cc
   thing-count done rest Shots whole thing = cc
   thing-count done rest (Item at kind delay) whole thing =
-      below (count_by is_item_line done) MOST_ITEMS (omega (arith, count-split is_item_line done rest (Item at kind delay), ap (count_by is_item_line) whole, is.few_items))
+      lt-ltb (count_by is_item_line done) MOST_ITEMS (omega (arith, count-split is_item_line done rest (Item at kind delay), ap (count_by is_item_line) whole, is.few_items))
   thing-count done rest (Teleport lo hi dest) whole thing =
-      below (count_by is_teleport_line done) MOST_BOXES (omega (arith, count-split is_teleport_line done rest (Teleport lo hi dest), ap (count_by is_teleport_line) whole, is.few_teleporters))
+      lt-ltb (count_by is_teleport_line done) MOST_BOXES (omega (arith, count-split is_teleport_line done rest (Teleport lo hi dest), ap (count_by is_teleport_line) whole, is.few_teleporters))
   thing-count done rest (Goal lo hi) whole thing =
-      below (count_by is_goal_line done) MOST_BOXES (omega (arith, count-split is_goal_line done rest (Goal lo hi), ap (count_by is_goal_line) whole, is.few_goals))
+      lt-ltb (count_by is_goal_line done) MOST_BOXES (omega (arith, count-split is_goal_line done rest (Goal lo hi), ap (count_by is_goal_line) whole, is.few_goals))
   thing-count done rest (Lift lo hi rise speed) whole thing =
-      below (count_by is_lift_line done) MOST_BOXES (omega (arith, count-split is_lift_line done rest (Lift lo hi rise speed), ap (count_by is_lift_line) whole, is.few_lifts))
+      lt-ltb (count_by is_lift_line done) MOST_BOXES (omega (arith, count-split is_lift_line done rest (Lift lo hi rise speed), ap (count_by is_lift_line) whole, is.few_lifts))
 
   lift-shafts : (done rest : List MapLine) (s : Bounds) → filter_map shaft_of full.things ≡ filter_map shaft_of done ++ s ∷ filter_map shaft_of rest
       → (not (is_blocked s full.blocks) && not (meets_shaft (filter_map shaft_of done) s)) ≡ true
@@ -338,7 +329,7 @@ module _ (full : MapView) (is : IsMap full) where
       (subst (All (λ own. is_blocked own full.blocks ≡ false)) split is.clear_shafts) in
       let apart = pairs-before (λ one other. overlaps one other ≡ false) (filter_map shaft_of done) s (filter_map shaft_of rest)
       (subst (AllPairs (λ one other. overlaps one other ≡ false)) split is.shafts_apart) in
-      both _ _ (ap not clear) (ap not (list_any_none (λ own. overlaps own s) (filter_map shaft_of done) apart))
+      and_from _ _ (ap not clear) (ap not (list_any_none (λ own. overlaps own s) (filter_map shaft_of done) apart))
 
   thing-shafts : (done rest : List MapLine) (line : MapLine) → done ++ line ∷ rest ≡ full.things → is_thing_line line ≡ true → keeps_shafts (filled full full.blocks full.spawns done) line ≡ true
   thing-shafts done rest (Arena lo hi) whole thing = cc

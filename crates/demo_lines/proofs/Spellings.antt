@@ -1,24 +1,21 @@
 -- A packet's bytes and their text.
-use Rattle.std.proofs.Common.{◌≡◌, ℕ, ◌*◌, ◌<◌, ◌==◌, ◌&&◌, Bool, true, false, List, [], ◌∷◌, length, Some, None, Ok, codes, cond, refl, ap, ◌∙◌, arith, ◌≤◌, ◌⊎◌, inl, inr, get_or}
+use Rattle.std.proofs.Common.{◌≡◌, ℕ, ◌*◌, ◌<◌, ◌==◌, false, List, [], ◌∷◌, length, Some, None, Ok, codes, cond, refl, ap, ◌∙◌, arith, ◌≤◌, ◌⊎◌, inl, inr, get_or}
 use Rattle.std.specs.Str.{bytes_eq}
 use Rattle.std.specs.Result.{result_ok}
 use Rattle.std.proofs.lemmas.Bool.{cases_lt}
 use Rattle.std.proofs.lemmas.Bool.Decides.{nat_tests}
 use Rattle.std.proofs.lemmas.List.{get_or_past}
+use Rattle.std.proofs.Math.Bool.{and-false}
 use Rattle.edge_io.specs.Lines.{AreBytes}
 use Rattle.hex.specs.Hex.{IsBytes, decode_of, encode_lower, encode_upper, lower_digits, upper_digits}
 use Rattle.hex.proofs.HexLemmas.{length-encode_with, decode_of-encode_lower, decode_of-encode_upper}
 use Rattle.demo_lines.specs.Packets.{packet_bytes}
 
-and_false : (b : Bool) → (b && false) ≡ false
-and_false true = refl
-and_false false = refl
-
 -- a text of an even length isn't the dash
 no_dash : (text : List ℕ) (n : ℕ) → length text ≡ 2 * n → bytes_eq text (codes "-") ≡ false
 no_dash [] n even = refl
 no_dash (d ∷ []) n even = absurd (omega arith)
-no_dash (d ∷ e ∷ ds) n even = and_false (d == 45)
+no_dash (d ∷ e ∷ ds) n even = and-false (d == 45)
 
 byte_at : (bytes : List ℕ) (i : ℕ) → AreBytes bytes → ((i < length bytes) ⊎ (length bytes ≤ i)) → get_or bytes i 0 < 256
 byte_at bytes i are (inl within) = are i 0 within

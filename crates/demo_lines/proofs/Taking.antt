@@ -1,8 +1,7 @@
 -- What is known after a line holds again, and fewer lines can follow.
-use Rattle.std.proofs.Common.{◌≡◌, ℕ, ◌+◌, ◌≤◌, ◌<◌, ◌==◌, Bool, true, false, not, nat_le, nat_lt, List, [], ◌∷◌, ◌++◌, length, count_by, Option, Some, None, Result, Ok, Err, IfOk, OnOk, OnErr, IfSome, IsSome, option_map, cond, refl, sym, ap, ◌∙◌, subst, arith, length-append}
+use Rattle.std.proofs.Common.{◌≡◌, ℕ, ◌+◌, ◌≤◌, ◌<◌, Bool, true, false, not, ◌∷◌, length, count_by, Option, Some, None, Result, Ok, Err, IfOk, OnOk, OnErr, IfSome, IsSome, option_map, cond, refl, sym, ap, ◌∙◌, subst, arith, length-append, []}
 use Rattle.std.specs.Option.{option_or}
-use Rattle.std.proofs.lemmas.Bool.Decides.{nat_tests}
-use Rattle.std.proofs.lemmas.List.Sums.{sum_by-append, sum_by-cons}
+use Rattle.std.proofs.lemmas.Bool.{leb-false, ltb-true}
 use Rattle.arena_geo.specs.Bounds.{bounds}
 use Rattle.arena_map.specs.declared.limits.TheConstants.{MOST_BLOCKS, MOST_BOXES, MOST_ITEMS, MOST_SPAWNS}
 use Rattle.arena_map.specs.declared.map_line.MapLine.{MapLine}
@@ -13,6 +12,7 @@ use Rattle.arena_map.specs.Maps.{MapView, is_ready}
 use Rattle.arena_map.specs.MapLines.{is_arena, is_added, is_item_line, is_teleport_line, is_goal_line, is_lift_line}
 use Rattle.arena_map.specs.Places.{keeps_box}
 use Rattle.arena_map.specs.Rules.{begun_map, with_line, keeps_count}
+use Rattle.arena_map.proofs.Keeping.{count-push, none_yet}
 use Rattle.demo_lines.specs.declared.stage.Stage.{Stage}
 use Rattle.demo_lines.specs.declared.stage.Stage.TheVariants.{Start, Map, Playing, Ended, Refused}
 use Rattle.demo_lines.specs.declared.word.Word.TheVariants as words
@@ -47,32 +47,20 @@ pub record GoesOn (n : ℕ) (r : Reading) : Type 0 where
 
 -- ---- a line of the map
 
-count-push : (p : MapLine → Bool) (lines : List MapLine) (line : MapLine) → count_by p (lines ++ line ∷ []) ≡ count_by p lines + cond (p line) 1 0
-count-push p lines line =
-    let whole = sum_by-append (λ l. cond (p l) 1 0) lines (line ∷ []) in
-    let one = sum_by-cons (λ l. cond (p l) 1 0) line [] in
-    omega (arith, whole, one)
-
 kept-count : (box count : Bool) (rest : Option MapFault) → cond (not box) (Some rules.Box) (cond (not count) (Some rules.Count) rest) ≡ None → count ≡ true
 kept-count true true rest h = refl
 kept-count true false rest h = cc
 kept-count false count rest h = cc
 
-room : (n limit : ℕ) → nat_lt n limit ≡ true → n < limit
-room n limit h = grind (arith, nat_tests)
-
-none-yet : (n : ℕ) → (n == 0) ≡ true → n ≡ 0
-none-yet n h = grind (arith, nat_tests)
-
 added-fewer : (map : MapView) (line : MapLine) → is_added line ≡ true → keeps_count map line ≡ true → map_lines_left (Some (with_line map line)) < map_lines_left (Some map)
 added-fewer map (Arena lo hi) added count = cc
-added-fewer map (Block lo hi) added count = omega (arith, room (length map.blocks) MOST_BLOCKS count, length-append map.blocks (bounds lo hi ∷ []))
-added-fewer map (Spawn at) added count = omega (arith, room (length map.spawns) MOST_SPAWNS count, length-append map.spawns (at ∷ []))
+added-fewer map (Block lo hi) added count = omega (arith, ltb-true (length map.blocks) MOST_BLOCKS count, length-append map.blocks (bounds lo hi ∷ []))
+added-fewer map (Spawn at) added count = omega (arith, ltb-true (length map.spawns) MOST_SPAWNS count, length-append map.spawns (at ∷ []))
 added-fewer map (Item at kind delay) added count =
     let line = Item at kind delay in
     omega (
       arith,
-      room (count_by is_item_line map.things) MOST_ITEMS count,
+      ltb-true (count_by is_item_line map.things) MOST_ITEMS count,
       count-push is_item_line map.things line,
       count-push is_teleport_line map.things line,
       count-push is_goal_line map.things line,
@@ -82,7 +70,7 @@ added-fewer map (Teleport lo hi dest) added count =
     let line = Teleport lo hi dest in
     omega (
       arith,
-      room (count_by is_teleport_line map.things) MOST_BOXES count,
+      ltb-true (count_by is_teleport_line map.things) MOST_BOXES count,
       count-push is_item_line map.things line,
       count-push is_teleport_line map.things line,
       count-push is_goal_line map.things line,
@@ -92,7 +80,7 @@ added-fewer map (Goal lo hi) added count =
     let line = Goal lo hi in
     omega (
       arith,
-      room (count_by is_goal_line map.things) MOST_BOXES count,
+      ltb-true (count_by is_goal_line map.things) MOST_BOXES count,
       count-push is_item_line map.things line,
       count-push is_teleport_line map.things line,
       count-push is_goal_line map.things line,
@@ -102,14 +90,14 @@ added-fewer map (Lift lo hi rise speed) added count =
     let line = Lift lo hi rise speed in
     omega (
       arith,
-      room (count_by is_lift_line map.things) MOST_BOXES count,
+      ltb-true (count_by is_lift_line map.things) MOST_BOXES count,
       count-push is_item_line map.things line,
       count-push is_teleport_line map.things line,
       count-push is_goal_line map.things line,
       count-push is_lift_line map.things line,
     )
-added-fewer map (Depth depth) added count = omega (arith, none-yet map.depth_lines count)
-added-fewer map Shots added count = omega (arith, none-yet map.shots_lines count)
+added-fewer map (Depth depth) added count = omega (arith, none_yet map.depth_lines count)
+added-fewer map Shots added count = omega (arith, none_yet map.shots_lines count)
 
 begun-goes_on : (r : Reading) (line : MapLine) → r.limit ≤ 100000 → r.frames ≡ 0 → r.arrivals ≡ 0 → r.lines + left_at Start r ≤ most_lines → is_arena line ≡ true
     → GoesOn (left_at Start r) (with_map r (begun_map line))
@@ -140,7 +128,7 @@ added-goes_on r (Some map) line is there limit frames arrivals lines added none 
 
 -- ---- the other lines
 
-no_rule : (o : Option MapFault) → option_map faults.Rule o ≡ None → o ≡ None
+pub no_rule : (o : Option MapFault) → option_map faults.Rule o ≡ None → o ≡ None
 no_rule None h = refl
 no_rule (Some rule) h = cc
 
@@ -155,9 +143,6 @@ second-none (Some why) p h = cc
 no_count : (b : Bool) → cond b (Some faults.Count) None ≡ None → b ≡ false
 no_count true h = cc
 no_count false h = refl
-
-below : (limit n : ℕ) → nat_le limit n ≡ false → n < limit
-below limit n h = grind (arith, nat_tests)
 
 spawn-there : (b : Bool) → cond b None (Some rules.NoSpawn) ≡ None → b ≡ true
 spawn-there true h = refl
@@ -211,7 +196,7 @@ taken-goes_on Map r (OfMap line) here holds has lines going taken none =
     added-goes_on r r.map line refl has.0 holds.limit has.1 has.2 lines taken (no_rule (broken_by_line r.map line) none)
 taken-goes_on Map r Frame here holds has lines going taken none =
     let rule = no_rule (broken_by_frame r) (first-none (option_map faults.Rule (broken_by_frame r)) _ none) in
-    let few = below r.limit r.frames (no_count _ (second-none (option_map faults.Rule (broken_by_frame r)) _ none)) in
+    let few = leb-false r.limit r.frames (no_count _ (second-none (option_map faults.Rule (broken_by_frame r)) _ none)) in
     record {
       holds = record {
         map = ready r.map (first_frame r here rule);
@@ -226,7 +211,7 @@ taken-goes_on Map r (From a) here holds has lines going taken none = cc
 taken-goes_on Map r End here holds has lines going taken none = ended-goes_on (left_at Map r) r holds lines (omega arith)
 taken-goes_on Playing r (OfMap line) here holds has lines going taken none = absurd taken
 taken-goes_on Playing r Frame here holds has lines going taken none =
-    let few = below r.limit r.frames (no_count _ (second-none (option_map faults.Rule (broken_by_frame r)) _ none)) in
+    let few = leb-false r.limit r.frames (no_count _ (second-none (option_map faults.Rule (broken_by_frame r)) _ none)) in
     record {
       holds = record {
         map = has;
@@ -238,7 +223,7 @@ taken-goes_on Playing r Frame here holds has lines going taken none =
       fewer = omega (arith, few, holds.limit);
     }
 taken-goes_on Playing r (From a) here holds has lines going taken none =
-    let few = below 512 r.arrivals (no_count _ none) in
+    let few = leb-false 512 r.arrivals (no_count _ none) in
     record {
       holds = record { map = has; limit = holds.limit; frames = holds.frames; arrivals = omega (arith, few); lines = omega (arith, few) };
       fewer = omega (arith, few);

@@ -55,17 +55,17 @@ number-long : (z : ℤ) → unsigned_abs z ≤ 1048576 → length (field_text (s
 number-long (pos n) near = omega (arith, length-decimal-le 7 n (omega arith) (omega arith) (omega arith))
 number-long (negsuc n) near = omega (arith, length-decimal-le 7 (suc n) (omega arith) (omega arith) (omega arith))
 
-point-long : (p : Vec3) → IsNear 1048576 p → length (point_text p) ≤ 27
+pub point-long : (p : Vec3) → IsNear 1048576 p → length (point_text p) ≤ 27
 point-long p near =
     let x = field_text (signed_decimal p.x) in
     let y = field_text (signed_decimal p.y) in
     let z = field_text (signed_decimal p.z) in
     omega (arith, length-append (x ++ y) z, length-append x y, number-long p.x near.x, number-long p.y near.y, number-long p.z near.z)
 
-corners-long : (lo hi : Vec3) → IsNear 1048576 lo → IsNear 1048576 hi → length (point_text lo ++ point_text hi) ≤ 54
+pub corners-long : (lo hi : Vec3) → IsNear 1048576 lo → IsNear 1048576 hi → length (point_text lo ++ point_text hi) ≤ 54
 corners-long lo hi near_lo near_hi = omega (arith, length-append (point_text lo) (point_text hi), point-long lo near_lo, point-long hi near_hi)
 
-kind-long : (kind : Kind) → is_item kind ≡ true → length (kind_text kind) ≤ 4
+pub kind-long : (kind : Kind) → is_item kind ≡ true → length (kind_text kind) ≤ 4
 kind-long kinds.Ammo is = omega arith
 kind-long kinds.Gem is = omega arith
 kind-long kind is = cc

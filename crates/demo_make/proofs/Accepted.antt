@@ -6,6 +6,7 @@ use Rattle.std.proofs.lemmas.Bool.{cases_lt}
 use Rattle.std.proofs.lemmas.Bool.Decides.{nat_tests}
 use Rattle.std.proofs.lemmas.List.{length-map}
 use Rattle.std.proofs.lemmas.List.FromFn.{length-map-range_with_len}
+use Rattle.std.proofs.lemmas.Option.{same_Some}
 use Rattle.entity_recs.specs.declared.limits.TheConstants.{IDS}
 use Rattle.entity_recs.specs.declared.rec.Rec.{Rec}
 use Rattle.entity_slots.specs.Ports.{AreSlots, port_at}
@@ -101,9 +102,6 @@ port-there players last seq moved clients are slot below =
       | inr more ↦ ap port_of (are.waiting slot more below)
     ]
 
-pub some-same : (a b : ℕ) → Some a ≡ Some b → a ≡ b
-some-same a b e = cc
-
 are-slots : (players last seq moved : ℕ) (clients : List (Option Client)) → AreMoved players last seq moved clients
     → AreSlots (ports_of clients)
 are-slots players last seq moved clients are = record {
@@ -116,7 +114,7 @@ are-slots players last seq moved clients are = record {
 
     own : (i port : ℕ) → port_at (ports_of clients) i ≡ Some port → port ≡ i + 1
     own i port e = elim (cases_lt i players) [
-      | inl below ↦ some-same port (i + 1) (sym e ∙ port-there players last seq moved clients are i below)
+      | inl below ↦ same_Some port (i + 1) (sym e ∙ port-there players last seq moved clients are i below)
       | inr above ↦ absurd (none-some port (sym (port_at-client clients i ∙ ap port_of (are.free i above)) ∙ e))
     ]
 

@@ -4,16 +4,15 @@ use Rattle.std.specs.List.{range_with_len}
 use Rattle.std.specs.Int.{w16}
 use Rattle.std.proofs.lemmas.Int.{ints}
 use Rattle.std.proofs.lemmas.Bool.Decides.{nat_tests}
-use Rattle.std.proofs.lemmas.List.Elements.{All-cons, All-nil, All-map, All-append, All-from_recursion, recursion_from_All}
+use Rattle.std.proofs.lemmas.List.Elements.{All-cons, All-nil, All-map, All-append, recursion_from_All}
 use Rattle.std.proofs.lemmas.List.{length-map}
 use Rattle.std.proofs.lemmas.List.FromFn.{length-map-range_with_len}
-use Rattle.edge_io.specs.Lines.{AreBytes}
-use Rattle.packet_read.specs.declared.move_packet.MovePacket.{MovePacket}
 use Rattle.packet_read.specs.declared.packet.Packet.TheVariants.{Join, Step}
 use Rattle.packet_read.specs.Reading.{reading}
-use Rattle.packet_read.specs.Spelling.{spelling, IsAllowedMove, MoveFits}
+use Rattle.packet_read.specs.Spelling.{IsAllowedMove, MoveFits}
 use Rattle.packet_read.proofs.Again.{packet_again}
 use Rattle.packet_read.specs.declared.arrival.Arrival.{Arrival}
+use Rattle.packet_read.proofs.Fields.{move-bytes}
 use Rattle.demo_lines.specs.declared.line.Line.TheVariants as lines
 use Rattle.demo_lines.specs.Spelling.{IsArrival, IsFrame, IsRecording, map_lines, frame_lines, recording_lines}
 use Rattle.demo_lines.proofs.Written.{packets_have_room}
@@ -50,11 +49,6 @@ join-read port = packet_again Join tt tt
 
 pub move-read : (seq port word : ℕ) → seq < 2 ^ 32 → reading (move_from seq port word).bytes ≡ Ok (Step (move_of seq word))
 move-read seq port word few = packet_again (Step (move_of seq word)) (move-fits seq word few) (move-allowed seq word)
-
-move-bytes : (m : MovePacket) → m.ms < 256 → m.buttons < 256 → AreBytes (spelling (Step m))
-move-bytes m ms buttons =
-    All-from_recursion (λ b. b < 256) (spelling (Step m))
-    (omega arith, (omega arith, (omega arith, (omega arith, (omega arith, (omega arith, (ms, (omega arith, (omega arith, (omega arith, (omega arith, (buttons, tt))))))))))))
 
 join-arrival : (port : ℕ) → port ≤ 64 → IsArrival (join_from port)
 join-arrival port few = record {

@@ -2,6 +2,7 @@
 use Rattle.std.proofs.Common.{◌≡◌, ℕ, zero, suc, ◌+◌, ◌-◌, ◌%◌, ◌≤◌, ◌<◌, Bool, true, false, eqb, cond, ◌||◌, refl, ap, ◌∙◌, subst, arith}
 use Rattle.std.proofs.lemmas.Bool.{or_parts}
 use Rattle.std.proofs.lemmas.Bool.Decides.{nat_tests}
+use Rattle.std.proofs.Math.Bool.{or-true}
 use Rattle.demo_make.specs.ResentFrames.{arrives}
 use Rattle.demo_make.specs.Repeating.{last_before}
 
@@ -73,11 +74,6 @@ last-is frames port (suc frame) early = by (arrives frames frame port) refl (las
         → cond b (frame + 1) (last_before frames port frame) ≡ suc frame - (suc frame + port + 2) % 3
     by true come before = let third = third-or-last frames port frame early come in omega (arith, third)
     by false lost before = let third = lost-third frames port frame lost in omega (arith, third, before)
-
--- each packet of the last frame arrives
-or-true : (b : Bool) → (b || true) ≡ true
-or-true true = refl
-or-true false = refl
 
 pub last-all : (frames port : ℕ) → 1 ≤ frames → last_before frames port frames ≡ frames
 last-all zero port some = absurd (omega (arith, some))

@@ -6,6 +6,7 @@ use Rattle.std.proofs.lemmas.Bool.{cases_lt, cases_eq, ne_eqb, eq-eqb}
 use Rattle.std.proofs.lemmas.Bool.Decides.{nat_tests}
 use Rattle.std.proofs.lemmas.List.{length-map}
 use Rattle.std.proofs.lemmas.List.Elements.{filter-append}
+use Rattle.std.proofs.lemmas.Option.{same_Some}
 use Rattle.entity_recs.specs.declared.limits.TheConstants.{IDS}
 use Rattle.entity_recs.specs.declared.rec.Rec.{Rec}
 use Rattle.entity_recs.specs.Commands.{Command}
@@ -32,7 +33,7 @@ use Rattle.demo_make.specs.Accepting.{ArePlaying, ArePlayingUpTo, AreClearOfSpaw
 use Rattle.demo_make.specs.Repeating.{last_before, new_commands, moves_of, joined_as, joined_in, OnlyNewAreAccepted, CommandsArriveOnce}
 use Rattle.demo_make.proofs.FramesKept.{no-joins}
 use Rattle.demo_make.proofs.Joining.{AreJoined}
-use Rattle.demo_make.proofs.Accepted.{after_arrivals-append, joins-run, some-same, finished-length}
+use Rattle.demo_make.proofs.Accepted.{after_arrivals-append, joins-run, finished-length}
 use Rattle.demo_make.proofs.Repeats.{repeat_of, repeat-read}
 use Rattle.demo_make.proofs.LastNumbers.{last-low, last-high, last-is}
 use Rattle.demo_make.proofs.NewCommands.{packet-new, none-new, new-length, new-last, each-once}
@@ -74,7 +75,7 @@ module _ (players : ℕ) (last : ℕ → ℕ) (new : ℕ → List MovePacket) wh
 
       own : (i port : ℕ) → port_at (ports_of clients) i ≡ Some port → port ≡ i + 1
       own i port e = elim (cases_lt i players) [
-        | inl below ↦ some-same port (i + 1) (sym e ∙ port-there heard clients are i below)
+        | inl below ↦ same_Some port (i + 1) (sym e ∙ port-there heard clients are i below)
         | inr above ↦ absurd (none-some port (sym (port_at-client clients i ∙ ap port_of (are.free i above)) ∙ e))
       ]
 

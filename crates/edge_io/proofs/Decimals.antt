@@ -6,6 +6,7 @@ use Rattle.std.proofs.lemmas.Str.Parse.{IsNumeralModel, numerals_by_fold}
 use Rattle.std.proofs.lemmas.Fmt.{decimal_digit, first_decimal, decimal_nonempty, digits_decimal, digits_value-decimal, decimal-digits_value}
 use Rattle.std.proofs.lemmas.Bool.Decides.{nat_tests}
 use Rattle.std.proofs.lemmas.Slice.Eq.{bytes_eq-Decides}
+use Rattle.std.proofs.lemmas.Bool.{and_parts, not-true}
 use Rattle.edge_io.specs.Numbers.{is_digit, digits_up_to, natural_up_to, integer_up_to, negated, are_digits, is_natural, is_integer}
 use Rattle.edge_io.specs.Laws.{IsReadWithin, IntegersHaveForm}
 
@@ -21,10 +22,6 @@ own = numerals_by_fold _ (search rules) read_on (search rules)
 record Spells (m : ℕ) (ds : List ℕ) (n : ℕ) : Type 0 where
   digits : all_ascii_digits ds ≡ true
   value : read_on m ds ≡ n
-
-pub and_parts : (a b : Bool) → (a && b) ≡ true → (a ≡ true) × (b ≡ true)
-and_parts true b e = (refl, e)
-and_parts false b e = cc
 
 spells-cons : (m d n : ℕ) (ds : List ℕ) (a b : Bool) (read : Option ℕ) → is_digit d ≡ a → (read ≡ Some n → Spells (10 * m + (d - 48)) ds n)
     → cond (a && b) read None ≡ Some n → Spells m (d ∷ ds) n
@@ -269,10 +266,6 @@ minus-read ds b (suc m) minus e some = record {
   number = negsuc m;
   read = ap (λ s. cond s (negated (natural_up_to (suc m) ds)) (option_map pos (natural_up_to (suc m) (b ∷ ds)))) minus ∙ ap negated e;
 }
-
-not-true : (b : Bool) → not b ≡ true → b ≡ false
-not-true true h = cc
-not-true false h = refl
 
 pub integer-within : (field : List ℕ) → is_integer field ≡ true → IsReadWithin field
 integer-within [] h = cc

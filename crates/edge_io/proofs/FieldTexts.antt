@@ -7,15 +7,16 @@ use Rattle.std.proofs.lemmas.Bool.Decides.{nat_tests}
 use Rattle.std.proofs.lemmas.Fmt.{digits_decimal}
 use Rattle.std.proofs.lemmas.List.{take-append-drop}
 use Rattle.std.proofs.Math.Seq.{take-append_seam, drop-append_seam}
+use Rattle.std.proofs.lemmas.Bool.{and_parts}
 use Rattle.edge_io.specs.Numbers.{is_digit}
 use Rattle.edge_io.specs.Fields.{is_space, cut, field_at, field_text}
-use Rattle.edge_io.proofs.Decimals.{own, and_parts}
+use Rattle.edge_io.proofs.Decimals.{own}
 
 -- bytes above a number
 abbrev pub AreAbove : ℕ → List ℕ → Type 0
 AreAbove low bytes = AllByRecursion (λ b. low < b) bytes
 
-digit_above : (d : ℕ) → is_digit d ≡ true → 32 < d
+pub digit_above : (d : ℕ) → is_digit d ≡ true → 32 < d
 digit_above d h = grind (arith, nat_tests)
 
 digits_above : (ds : List ℕ) → all_ascii_digits ds ≡ true → AreAbove 32 ds

@@ -6,14 +6,11 @@ use Rattle.edge_io.specs.declared.line_reader.NextLine.{NextLine}
 use Rattle.edge_io.specs.declared.line_reader.NextLine.TheVariants.{Whole, Long, Ended}
 use Rattle.edge_io.specs.declared.line_reader.Front.{Front}
 use Rattle.edge_io.specs.declared.line_reader.Front.TheVariants.{Closed, Over, Open}
+pub use Rattle.byte_lists.specs.Bytes.{AreBytes}
 
 -- what is ahead of a reader: the bytes that it has buffered, and then those that its source has left
 abbrev pub ahead : List ℕ → Option (List ℕ) → Option (List ℕ)
 ahead pending left = prepend_known pending left
-
--- the numbers are bytes
-abbrev pub AreBytes : List ℕ → Type 0
-AreBytes bytes = All (λ b. b < 256) bytes
 
 -- no byte is a line feed
 abbrev pub HasNoLineFeed : List ℕ → Type 0

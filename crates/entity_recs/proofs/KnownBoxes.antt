@@ -1,10 +1,10 @@
 -- The boxes of records, in numbers.
-use Rattle.std.proofs.Common.{◌≡◌, ◌≢◌, inl, inr, ℤ, pos, ◌+ℤ◌, refl, ap, arith}
-use Rattle.std.proofs.lemmas.Int.{ints}
+use Rattle.std.proofs.Common.{◌≡◌, ◌≢◌, inl, inr, refl, ap}
 use Rattle.arena_geo.specs.declared.vec3.Vec3.{Vec3}
 use Rattle.arena_geo.specs.Vectors.{zero_vector, plus}
 use Rattle.arena_geo.specs.Bounds.{Bounds, bounds}
 use Rattle.arena_geo.specs.Boxes.{grown}
+use Rattle.arena_geo.proofs.Vectors.{plus-zero_vector}
 use Rattle.entity_recs.specs.declared.kind.Kind.{Kind}
 use Rattle.entity_recs.specs.declared.kind.Kind.TheVariants.{Player, Ammo, Gem, Teleporter, Goal, Lift}
 use Rattle.entity_recs.specs.declared.bodies.TheConstants.{PLAYER_MINS, PLAYER_MAXS, ITEM_MAXS, GROWTH, ITEM_GROWTH}
@@ -29,10 +29,6 @@ grown_by : (b : Bounds) (growth by : Vec3) → growth ≡ by → IsLargerBy by (
 grown_by b growth by is = rw is (record { low = refl; high = refl })
 
 -- ---- bodies
-plus-zero : (v : Vec3) → plus v zero_vector ≡ v
-plus-zero v = λ i. record { x = same v.x i; y = same v.y i; z = same v.z i } where
-  same : (a : ℤ) → (a +ℤ pos 0) ≡ a
-  same a = omega (arith, ints)
 
 at_corners : (origin mins maxs low high : Vec3) → HasCorners low high mins maxs
     → standing origin mins maxs ≡ bounds (plus origin low) (plus origin high)
@@ -41,7 +37,7 @@ at_corners origin mins maxs low high are = rw (are.low_is, are.high_is) refl
 from_origin : (origin mins maxs high : Vec3) → mins ≡ zero_vector → maxs ≡ high
     → standing origin mins maxs ≡ bounds origin (plus origin high)
 from_origin origin mins maxs high low_is high_is =
-    rw (low_is, high_is) (ap (λ (v : Vec3). bounds v (plus origin high)) (plus-zero origin))
+    rw (low_is, high_is) (ap (λ (v : Vec3). bounds v (plus origin high)) (plus-zero_vector origin))
 
 player_corners : (kind : Kind) (origin mins maxs : Vec3) → kind ≡ Player → IsShapeOf kind origin mins maxs
     → HasCorners PLAYER_MINS PLAYER_MAXS mins maxs

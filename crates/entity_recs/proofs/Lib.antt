@@ -1,3 +1,4 @@
 -- Lemmas on the boxes of records.
 pub mod Standing
 pub mod KnownBoxes
+pub mod Ids

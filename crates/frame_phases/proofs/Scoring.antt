@@ -5,7 +5,8 @@ use Rattle.std.specs.Option.{option_to_list}
 use Rattle.std.proofs.lemmas.List.Sums.{sum_by-append}
 use Rattle.entity_recs.specs.declared.rec.Rec.{Rec}
 use Rattle.world_tree.specs.Live.{record_at, live_in, AreEntries}
-use Rattle.plain_server.proofs.SlotPlayers.{players_are_first, live-suc}
+use Rattle.world_tree.proofs.LiveRecords.{live-suc}
+use Rattle.plain_server.proofs.SlotPlayers.{players_are_first}
 use Rattle.frame_phases.specs.Scores.{score_at, score_in}
 
 abbrev pub score_first : ℕ → List (Option Rec) → ℕ

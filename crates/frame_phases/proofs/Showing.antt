@@ -5,8 +5,9 @@ use Rattle.std.specs.Bool.{OnTrue}
 use Rattle.std.proofs.lemmas.List.{map-append, length-map}
 use Rattle.entity_recs.specs.declared.rec.Rec.{Rec}
 use Rattle.world_tree.specs.Live.{record_at, live_in, AreEntries}
+use Rattle.world_tree.proofs.LiveRecords.{live-suc}
 use Rattle.plain_server.specs.Replies.{players_in}
-use Rattle.plain_server.proofs.SlotPlayers.{players_are_first, live-suc, few_first}
+use Rattle.plain_server.proofs.SlotPlayers.{players_are_first, few_first}
 
 -- a live slot is put last
 pub put_slot : (fits : Bool) (records : List (Option Rec)) (slot : ℕ) (me : Rec) (old new : List ℕ) → AreEntries records → record_at records slot ≡ Some me → (IsTrue fits ↔ (length old < 64))

@@ -1,12 +1,12 @@
 -- The counts of a match: each player joins once and moves once in each frame, and nothing is refused.
-use Rattle.std.proofs.Common.{◌≡◌, ℕ, zero, suc, ◌+◌, ◌*◌, ◌^◌, ◌<◌, ◌≤◌, false, List, [], ◌∷◌, length, map as map_list, replicate, Option, Some, None, is_some, refl, sym, ap, ◌∙◌, subst, arith, lit<}
+use Rattle.std.proofs.Common.{◌≡◌, ℕ, zero, suc, ◌+◌, ◌*◌, ◌^◌, ◌<◌, ◌≤◌, List, [], ◌∷◌, length, map as map_list, replicate, Option, None, is_some, refl, sym, ap, ◌∙◌, subst, arith, lit<}
 use Rattle.std.specs.Prelude.{sum_by}
 use Rattle.std.specs.List.{range_with_len}
 use Rattle.std.proofs.lemmas.List.{length-replicate}
 use Rattle.std.proofs.lemmas.List.FromFn.{length-map-range_with_len}
 use Rattle.std.proofs.lemmas.List.Sums.{sum_by-cons}
 use Rattle.entity_recs.specs.declared.effect.Entry.{Entry}
-use Rattle.entity_recs.specs.declared.rec.Rec.{Rec}
+use Rattle.entity_recs.proofs.Ids.{no_record}
 use Rattle.packet_read.specs.declared.arrival.Arrival.{Arrival}
 use Rattle.client_ports.specs.declared.client.Client.{Client}
 use Rattle.client_ports.specs.Clients.{client_at, no_clients}
@@ -17,7 +17,7 @@ use Rattle.plain_server.specs.RecordsById.{opening}
 use Rattle.plain_server.specs.Frames.{state_after_tick, received_in, state_after, moved_by, IsRightAfter, AreRight}
 use Rattle.plain_server.proofs.Frames.{received_is, state_after_is, moved_by_is, opening_is}
 use Rattle.plain_server.proofs.Ticking.{server_ticked}
-use Rattle.out_text.proofs.Runs.{length-right}
+use Rattle.plain_server.proofs.Turns.{right_count}
 use Rattle.demo_make.specs.GeneratedMap.{generated_map}
 use Rattle.demo_make.specs.GeneratedFrames.{IsInRange, arrivals_in, generated_frames}
 use Rattle.demo_make.specs.Accepting.{ArePlaying, AllAreAccepted, IsPlayed}
@@ -117,14 +117,10 @@ nobody_plays =
       free = λ slot above. none-at 64 slot;
     })
 
-not_live : (place : Option Rec) → is_some place ≡ false → place ≡ None
-not_live None is = refl
-not_live (Some r) is = cc
-
 pub no_player : (slot : ℕ) → slot < 64 → record_at (state_after_tick generated_map 0 (opening generated_map)).records slot ≡ None
 no_player slot below =
     let ticked = server_ticked generated_map 0 (opening generated_map) generated_is_map (opening_is generated_map generated_is_map) in
-    not_live (record_at (state_after_tick generated_map 0 (opening generated_map)).records slot)
+    no_record (record_at (state_after_tick generated_map 0 (opening generated_map)).records slot)
     (sym (ticked.fits.live.same slot below) ∙ ap is_some (nobody_plays.free slot (omega arith)))
 
 first-played : (seed players : ℕ) → players ≤ 64 → IsPlayed players players 1 (received_in generated_map 0 (opening generated_map) (arrivals_in seed players 0))
@@ -156,7 +152,7 @@ pub counts_are_known : CountsAreKnown
 counts_are_known = λ seed players frames js range right.
     let counts = some-counts seed players frames js range right in
     record {
-      frames_are = length-right generated_map 0 (opening generated_map) (generated_frames seed players frames) js right ∙ length-map-range_with_len (arrivals_in seed players) 0 frames;
+      frames_are = right_count generated_map 0 (opening generated_map) (generated_frames seed players frames) js right ∙ length-map-range_with_len (arrivals_in seed players) 0 frames;
       joins = counts.joins_are;
       moves = counts.moves_are;
       refused = counts.refused_are;

@@ -36,7 +36,7 @@ use Rattle.out_text.specs.Output.{lines_in, AreRightIn, IsOutput}
 use Rattle.out_text.specs.PacketLines.{refusals_in}
 use Rattle.out_text.specs.Reading.{line_in}
 use Rattle.out_text.proofs.LinesRead.{line-sound}
-use Rattle.out_text.proofs.OneAnswer.{one_answer_each}
+use Rattle.out_text.proofs.OneAnswer.{one_answer_each, refusals-append}
 use Rattle.out_text.proofs.Quiet.{whole_lines-text}
 use Rattle.match_play.specs.LostPackets.{numbers_over, HasEachCommandOnce, is_no_line, HasNoRefusal, LosesNoCommand, LostPacketsLoseNoCommand}
 use Rattle.match_play.proofs.Counts.{nobody_plays, no_player}
@@ -91,16 +91,6 @@ record AreKept (seed players frames frame n : ℕ) (state : State) (arrivals : L
   refused : refusals_in (run_lines generated_map frame state arrivals js) ≡ []
   each : (slot : ℕ) → slot < players → numbers_over slot js ≡ flat_map (numbers_at seed players frames slot) (range_with_len frame n)
   others : (slot : ℕ) → players ≤ slot → numbers_over slot js ≡ []
-
-refusals-append : (xs ys : List OutLine) → refusals_in (xs ++ ys) ≡ refusals_in xs ++ refusals_in ys
-refusals-append [] ys = refl
-refusals-append (FrameLine frame ∷ xs) ys = refusals-append xs ys
-refusals-append (FromLine port bytes ∷ xs) ys = refusals-append xs ys
-refusals-append (NoLine place why ∷ xs) ys = ap (λ (ts : List Refused). record { place = place; why = why } ∷ ts) (refusals-append xs ys)
-refusals-append (JoinedLine port slot ∷ xs) ys = refusals-append xs ys
-refusals-append (DidLine did ∷ xs) ys = refusals-append xs ys
-refusals-append (ToLine slot bytes ∷ xs) ys = refusals-append xs ys
-refusals-append (EndLine frames ∷ xs) ys = refusals-append xs ys
 
 kept-more : (seed players frames frame n : ℕ) (state : State) (a : List Arrival) (j : List Entry) (arrivals : List (List Arrival)) (js : List (List Entry))
     → IsKept seed players frames frame (received_in generated_map frame state a) j

@@ -6,13 +6,13 @@ use Rattle.packet_read.specs.declared.arrival.Arrival.{Arrival}
 use Rattle.arena_map.specs.Maps.{MapView}
 use Rattle.plain_server.specs.RecordsById.{opening}
 use Rattle.plain_server.specs.Frames.{AreRight, AreInOrder}
+use Rattle.plain_server.proofs.Turns.{right_count}
 use Rattle.demo_lines.specs.Bytes.{map_of, events, fault}
 use Rattle.out_text.specs.Collecting.{frames_of}
 use Rattle.out_text.specs.Journals.{dids}
 use Rattle.out_text.specs.Output.{AreRightIn, AreInOrderIn, out_text, IsOutput}
 use Rattle.out_text.proofs.FrameEvents.{frames_have_the_events}
 use Rattle.out_text.proofs.Outputs.{outputs_spell}
-use Rattle.out_text.proofs.Runs.{length-right}
 use Rattle.demo_make.specs.GeneratedMap.{generated_map}
 use Rattle.demo_make.specs.GeneratedFrames.{IsInRange, arrivals_in, generated_frames, generated_text}
 use Rattle.demo_make.proofs.FramesKept.{generated_recordings_read_back}
@@ -71,7 +71,7 @@ module _ (seed players frames : ℕ) (bytes : List ℕ) (accepted : fault bytes 
   output_match workers text is =
       let right = to_right (dids text) is.right in
       let count : length (dids text) ≡ frames =
-      length-right generated_map 0 (opening generated_map) (generated_frames seed players frames) (dids text) right ∙ length-map-range_with_len (arrivals_in seed players) 0 frames in
+      right_count generated_map 0 (opening generated_map) (generated_frames seed players frames) (dids text) right ∙ length-map-range_with_len (arrivals_in seed players) 0 frames in
       record {
         count = count;
         right = subst (λ n. AreRight generated_map 0 (opening generated_map) (generated_frames seed players n) (dids text)) (sym count) right;

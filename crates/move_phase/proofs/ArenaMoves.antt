@@ -1,7 +1,6 @@
 -- The moves of an arena on workers, against the plain server's worlds.
-use Rattle.std.proofs.Common.{◌≡◌, ℕ, ◌<◌, ◌==◌, true, List, [], ◌∷◌, length, Option, Some, Vec, Global, refl, sym, ap, ◌∙◌, subst, arith}
+use Rattle.std.proofs.Common.{◌≡◌, ℕ, ◌<◌, true, List, [], Option, Some, Vec, Global, sym, ap, ◌∙◌, subst}
 use Rattle.std.specs.Prelude.{All}
-use Rattle.std.proofs.lemmas.Bool.{eqb-true}
 use Rattle.std.proofs.lemmas.List.Elements.{All-from_recursion, All-weaker}
 use Rattle.entity_recs.specs.declared.rec.Rec.{Rec}
 use Rattle.entity_recs.specs.declared.effect.Entry.{Entry}
@@ -63,10 +62,6 @@ pub none_moved : (arena : MapView) (records : List (Option Rec)) (commands : Lis
 none_moved arena records commands journal valid no_entries =
     sym (records_in-world_of records (λ id r at. (valid.each id r at).own_id))
     ∙ ap (λ (es : List Entry). records_in (run (outcome_on arena) (world_of records) (history_of commands es)) records) (sym no_entries)
-
-no_items : {X : Type 0} (xs : List X) → true ≡ (length xs == 0) → xs ≡ []
-no_items [] none = refl
-no_items (x ∷ xs) none = let count = eqb-true (length (x ∷ xs)) 0 (sym none) in absurd (omega (arith, count))
 
 -- ---- where there are some
 

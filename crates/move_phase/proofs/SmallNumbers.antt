@@ -1,8 +1,9 @@
 -- The numbers of live records, looked at one after another.
-use Rattle.std.proofs.Common.{◌≡◌, ◌≢◌, ◌⊎◌, ℕ, zero, suc, ◌+◌, ◌<◌, ◌≤◌, List, [], ◌∷◌, length, Option, Some, None, IfSome, inl, inr, sym, ap, ◌∙◌, subst, arith}
+use Rattle.std.proofs.Common.{◌≡◌, ◌≢◌, ◌⊎◌, ℕ, ◌+◌, ◌<◌, ◌≤◌, List, length, Option, Some, None, IfSome, inl, inr, sym, ap, ◌∙◌, subst, arith}
 use Rattle.std.proofs.lemmas.Bool.{cases_eq}
 use Rattle.entity_recs.specs.declared.rec.Rec.{Rec}
 use Rattle.world_tree.specs.Live.{record_at}
+use Rattle.world_tree.proofs.LiveRecords.{live_below}
 use Rattle.move_phase.specs.Numbers.{HasSmallNumbers, HaveSmallNumbers}
 
 -- those of the ids below this one are small
@@ -25,12 +26,6 @@ small_next records id next o next_is is small so_far k r below at = by (cases_eq
     by : (k ≡ id) ⊎ (k ≢ id) → HasSmallNumbers r
     by (inl same) = small_some o r small (is ∙ ap (record_at records) (sym same) ∙ at)
     by (inr apart) = so_far k r (omega (arith, below, next_is, apart)) at
-
--- a live id is below the number of places
-live_below : (records : List (Option Rec)) (k : ℕ) (r : Rec) → record_at records k ≡ Some r → k < length records
-live_below [] k r at = cc
-live_below (x ∷ records) zero r at = omega arith
-live_below (x ∷ records) (suc k) r at = let rest = live_below records k r at in omega (arith, rest)
 
 -- of all ids
 pub small_all : (records : List (Option Rec)) (id : ℕ) → length records ≤ id → AreSmallBelow id records → HaveSmallNumbers records

@@ -1,12 +1,10 @@
 -- The records of players that a map's action takes: those of players inside the arena.
-use Rattle.std.proofs.Common.{◌≡◌, ◌<◌, ◌≤◌, Bool, true, sym, ap, ◌∙◌}
-use Rattle.arena_geo.specs.Bounds.{Bounds}
+use Rattle.std.proofs.Common.{◌≡◌, ◌<◌, ◌≤◌, true}
 use Rattle.arena_geo.specs.Boxes.{contains}
 use Rattle.entity_recs.specs.declared.kind.Kind.TheVariants.{Player}
 use Rattle.entity_recs.specs.declared.rec.Rec.{Rec}
 use Rattle.entity_recs.specs.Records.{IsRecord}
 use Rattle.entity_recs.specs.Bodies.{body_of}
-use Rattle.arena_map.specs.Maps.{MapView}
 use Rattle.arena_actions.specs.declared.map_action.MapAction.{MapAction}
 use Rattle.arena_actions.specs.declared.map_action.MapAction.TheVariants.{Plain, Shots}
 use Rattle.arena_actions.specs.MapActions.{map_in, meaning_in}
@@ -19,13 +17,3 @@ player_taken (Plain a) r kind is_record score seq inside =
     player_is_taken a.map r (record { kind = kind; is_record = is_record; score = score; inside = inside }) seq
 player_taken (Shots a) r kind is_record score seq inside =
     player_is_taken a.arena.map r (record { kind = kind; is_record = is_record; score = score; inside = inside }) seq
-
--- what was tested is the player's body in the arena
-pub inside_by_test : (map asked : MapView) (bounds body : Bounds) (me : Rec) (inside : Bool) → asked ≡ map → bounds ≡ asked.bounds → body ≡ body_of me → inside ≡ contains bounds body → inside ≡ true
-    → contains map.bounds (body_of me) ≡ true
-inside_by_test map asked bounds body me inside asked_is bounds_are body_is inside_is is =
-    ap (λ (m : MapView). contains m.bounds (body_of me)) (sym asked_is)
-    ∙ ap (λ (b : Bounds). contains b (body_of me)) (sym bounds_are)
-    ∙ ap (contains bounds) (sym body_is)
-    ∙ sym inside_is
-    ∙ is

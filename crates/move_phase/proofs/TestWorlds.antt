@@ -1,5 +1,5 @@
 -- What the tests of moves know of their world.
-use Rattle.std.proofs.Common.{◌≡◌, ℕ, zero, suc, ◌*◌, ◌<◌, ◌≤◌, List, [], ◌∷◌, length, Option, IsSome, sym, ◌∙◌, subst, arith}
+use Rattle.std.proofs.Common.{◌≡◌, ℕ, ◌*◌, ◌<◌, ◌≤◌, List, length, Option, IsSome, sym, ◌∙◌, subst, arith}
 use Rattle.std.specs.Prelude.{All}
 use Rattle.std.proofs.lemmas.List.Elements.{All-weaker}
 use Rattle.entity_recs.specs.declared.limits.TheConstants.{IDS}
@@ -18,12 +18,7 @@ use Rattle.client_ports.proofs.Slots.{client_count}
 use Rattle.client_ports.proofs.Staying.{server_received}
 use Rattle.client_ports.proofs.Valid.{opening-is_server}
 use Rattle.plain_server.specs.Moving.{HasLivePlayer}
-use Rattle.client_ports.proofs.Short.{moves_are_few}
-
-within : (clients : List (Option Client)) (slot : ℕ) → IsSome (client_at clients slot) → slot < length clients
-within [] slot some = cc
-within (x ∷ clients) zero some = omega arith
-within (x ∷ clients) (suc slot) some = let rest = within clients slot some in omega (arith, rest)
+use Rattle.client_ports.proofs.Short.{moves_are_few, within}
 
 -- a live client's slot has a live player
 live_player : (map_view : MapView) (state : State) (c : Command) → IsServerState map_view state → IsSome (client_at state.clients c.slot) → HasLivePlayer state.records c

@@ -3,6 +3,7 @@ use Rattle.std.proofs.Common.{◌≡◌, ℕ, zero, suc, ◌+◌, ◌-◌, ◌*�
 use Rattle.std.specs.Prelude.{slice_index}
 use Rattle.hex.specs.Hex.{lower_digits, encode_with, encode_lower}
 use Rattle.hex.proofs.HexLemmas.{length-encode_with}
+use Rattle.snapshot_write.proofs.Blocks.{rest_is}
 
 -- the digits from 0 to 9
 pub digit_below_10 : (n : ℕ) → n < 10 → 48 + n ≡ slice_index lower_digits n
@@ -70,21 +71,11 @@ take-drop zero xs = refl
 take-drop (suc n) [] = refl
 take-drop (suc n) (x ∷ xs) = ap (λ (l : List ℕ). x ∷ l) (take-drop n xs)
 
--- what is left after the first ones, up to the end, is all that is left
-take-rest : (n : ℕ) (xs : List ℕ) → take (length xs - n) (drop n xs) ≡ drop n xs
-take-rest n xs = take-all (length xs - n) (drop n xs) (omega (arith, length-drop n xs))
-  where
-    take-all : (m : ℕ) (ys : List ℕ) → length ys ≤ m → take m ys ≡ ys
-    take-all zero [] h = refl
-    take-all zero (y ∷ ys) h = absurd (omega (arith, h))
-    take-all (suc m) [] h = refl
-    take-all (suc m) (y ∷ ys) h = ap (λ (l : List ℕ). y ∷ l) (take-all m ys (omega (arith, h)))
-
 -- after the digits of the first bytes, those of the others are left
 pub some_more : (out all rest digits : List ℕ) (n : ℕ) → digits ≡ encode_lower (take n rest) → out ++ encode_lower rest ≡ all
     → (out ++ digits) ++ encode_lower (take (length rest - n) (drop n rest)) ≡ all
 some_more out all rest digits n digits_are so_far =
-    ap (λ (l : List ℕ). (out ++ digits) ++ encode_lower l) (take-rest n rest)
+    ap (λ (l : List ℕ). (out ++ digits) ++ encode_lower l) (rest_is n rest)
     ∙ append_assoc out digits (encode_lower (drop n rest))
     ∙ ap (λ (l : List ℕ). out ++ (l ++ encode_lower (drop n rest))) digits_are
     ∙ ap (λ (l : List ℕ). out ++ l) (sym (digits-append (take n rest) (drop n rest)))
@@ -97,7 +88,7 @@ pub room_left : (out rest digits : List ℕ) (room n : ℕ) → digits ≡ encod
 room_left out rest digits room n digits_are inside fits =
     let front : length (take n rest) ≡ n = length-take n rest inside in
     let long : length digits ≡ 2 * length (take n rest) = ap (λ (l : List ℕ). length l) digits_are ∙ length-encode_with lower_digits (take n rest) in
-    let left : length (take (length rest - n) (drop n rest)) ≡ length rest - n = ap (λ (l : List ℕ). length l) (take-rest n rest) ∙ length-drop n rest in
+    let left : length (take (length rest - n) (drop n rest)) ≡ length rest - n = ap (λ (l : List ℕ). length l) (rest_is n rest) ∙ length-drop n rest in
     omega (arith, length-append out digits, front, long, left, inside, fits)
   where
     length-take : (m : ℕ) (ys : List ℕ) → m ≤ length ys → length (take m ys) ≡ m

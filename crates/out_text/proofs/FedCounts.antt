@@ -2,6 +2,7 @@
 use Rattle.std.proofs.Common.{◌≡◌, ℕ, suc, ◌==◌, Bool, true, false, cond, All, List, [], ◌∷◌, length, filter, refl, sym, ap, ◌∙◌, subst, arith}
 use Rattle.std.proofs.lemmas.Bool.Decides.{nat_tests}
 use Rattle.std.proofs.lemmas.List.Elements.{All-from_recursion}
+use Rattle.std.proofs.lemmas.Bool.{eq-eqb}
 use Rattle.packet_read.specs.declared.arrival.Arrival.{Arrival}
 use Rattle.packet_read.specs.Orders.{is_from}
 use Rattle.out_text.specs.Feeds.{IsFeedOf, AreFeedsOf}
@@ -45,12 +46,9 @@ others_stay port other (x ∷ xs) apart = by (is_from port x) refl (others_stay 
         sym (ap (λ b. cond b (x ∷ filter (is_from other) xs) (filter (is_from other) xs)) not_other)
     by false apart_too later = ap (λ ys. cond (is_from other x) (x ∷ ys) ys) later
 
-own_port : (port : ℕ) → (port == port) ≡ true
-own_port port = grind (arith, nat_tests)
-
 -- the packets from its own port begin with this one
 own_first : (a : Arrival) (sent : List Arrival) → filter (is_from a.port) (a ∷ sent) ≡ a ∷ filter (is_from a.port) sent
-own_first a sent = ap (λ b. cond b (a ∷ filter (is_from a.port) sent) (filter (is_from a.port) sent)) (own_port a.port)
+own_first a sent = ap (λ b. cond b (a ∷ filter (is_from a.port) sent) (filter (is_from a.port) sent)) (eq-eqb a.port a.port refl)
 
 -- the packets after the first were fed without it
 rest_is_fed : (a : Arrival) (sent fed : List Arrival) → IsFeedOf (a ∷ sent) fed → IsFeedOf sent (without_first a.port fed)

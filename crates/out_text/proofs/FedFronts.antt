@@ -7,6 +7,7 @@ use Rattle.packet_read.specs.declared.arrival.Arrival.{Arrival}
 use Rattle.plain_server.specs.RecordsById.{opening}
 use Rattle.plain_server.specs.Frames.{received_in, state_played}
 use Rattle.plain_server.proofs.Frames.{opening_is}
+use Rattle.plain_server.proofs.Turns.{right_count}
 use Rattle.demo_lines.specs.Bytes.{fault, map_of}
 use Rattle.out_text.specs.OutLines.{OutLine, EndLine, text_of}
 use Rattle.out_text.specs.FrameLines.{lines_with}
@@ -15,7 +16,7 @@ use Rattle.out_text.specs.Collecting.{frames_of}
 use Rattle.out_text.specs.Output.{AreRightIn, AreInOrderIn, last_of}
 use Rattle.packet_read.specs.Orders.{AreEachOnce}
 use Rattle.out_text.specs.Feeds.{AreFeedsOf, last_fed, last_ordered, RiseByParity, IsLastOrder, with_froms, fed_lines, fed_lines_in, fed_text, fed_output, froms, IsFedOutput, IsFedFront, IsFedFrames, IsFedPart, IsFedCutFrame, IsFedCutEnd, HasLastFed}
-use Rattle.out_text.proofs.Runs.{length-right, text_of-append}
+use Rattle.out_text.proofs.Runs.{text_of-append}
 use Rattle.out_text.proofs.ReadBack.{AreAllReported}
 use Rattle.out_text.proofs.Reporting.{right_are_reported}
 use Rattle.out_text.proofs.Growing.{GoesOnWith, goes_on_all, take-goes_on, length-goes_on}
@@ -97,7 +98,7 @@ module _ (workers : ℕ) (bytes : List ℕ) (arena : MapView) (played : IsPlayed
     few = omega (arith, length-feeds closed feeds fed, length-goes_on closed (frames_of bytes) on, frames_are_few bytes)
 
     as_many : length js ≡ length feeds
-    as_many = length-right arena 0 (opening arena) feeds js run.right
+    as_many = right_count arena 0 (opening arena) feeds js run.right
 
     -- what is read off the text of the first frames
     pub fed_froms-front : froms (fed_text_with arena feeds js) ≡ feeds
@@ -273,7 +274,7 @@ module _ (workers : ℕ) (bytes : List ℕ) (arena : MapView) (played : IsPlayed
       → AreRun workers arena feeds js → IsLastOrder order closed feeds
       → count < length (text_of (EndLine (length feeds) ∷ [])) → IsFedCutEnd workers bytes order (last_of js) (fed_text_with arena feeds js ++ take count (text_of (EndLine (length feeds) ∷ [])))
   fed_end_cut closed feeds js order count accepted all are run so short =
-      let same = length-right arena 0 (opening arena) feeds js run.right in
+      let same = right_count arena 0 (opening arena) feeds js run.right in
       fed_cut_at_end closed feeds feeds js js order (EndLine (length feeds) ∷ []) count accepted all are run so
       (fewer_fed_are_shorter arena (opening arena) (length closed - 1) feeds js same) refl short
 

@@ -14,7 +14,7 @@ use Rattle.out_text.specs.FrameLines.{lines_with}
 use Rattle.packet_read.specs.Orders.{is_from}
 use Rattle.out_text.specs.Feeds.{IsFeedOf, AreFeedsOf, with_froms, fed_lines}
 use Rattle.out_text.proofs.Reporting.{HaveBytes}
-use Rattle.out_text.proofs.Runs.{text_of-append}
+use Rattle.out_text.proofs.Runs.{text_of-append, next_number, same_taken}
 use Rattle.out_text.proofs.SmallFrames.{HasPort, IsSmallFrame, AreSmallFrames}
 use Rattle.out_text.proofs.Fitting.{IsShort}
 use Rattle.out_text.proofs.FedReadBack.{IsRead, AreRead}
@@ -121,9 +121,6 @@ feeds-take (suc k) (s ∷ frames) (f ∷ feeds) are = (are.0, feeds-take k frame
 
 -- ---- lines
 
-next_number : (frame n : ℕ) → frame + 1 + n ≡ frame + suc n
-next_number frame n = omega arith
-
 -- the lines of frames after frames
 pub fed_lines-append : (map : MapView) (frame : ℕ) (s : State) (xs ys : List (List Arrival)) (js ks : List (List Entry)) → length js ≡ length xs
     → fed_lines map frame s (xs ++ ys) (js ++ ks) ≡ fed_lines map frame s xs js ++ fed_lines map (frame + length xs) (state_played map frame s xs js) ys ks
@@ -147,13 +144,6 @@ fed_lines-push map frame s feeds fed js j same =
     fed_lines-append map frame s feeds (fed ∷ []) js (j ∷ []) same
     ∙ ap (λ ls. fed_lines map frame s feeds js ++ ls)
     (append-nil (with_froms fed (lines_with map (frame + length feeds) (received_in map (frame + length feeds) (state_played map frame s feeds js) fed) j)))
-
-same_taken : (k : ℕ) (feeds : List (List Arrival)) (js : List (List Entry)) → length js ≡ length feeds → length (take k js) ≡ length (take k feeds)
-same_taken zero feeds js same = refl
-same_taken (suc k) [] [] same = refl
-same_taken (suc k) [] (j ∷ js) same = cc
-same_taken (suc k) (x ∷ feeds) [] same = cc
-same_taken (suc k) (x ∷ feeds) (j ∷ js) same = let rest : length js ≡ length feeds = cc in ap suc (same_taken k feeds js rest)
 
 -- the text of the first frames is no longer than that of all
 pub fewer_fed_are_shorter : (map : MapView) (s : State) (k : ℕ) (feeds : List (List Arrival)) (js : List (List Entry)) → length js ≡ length feeds

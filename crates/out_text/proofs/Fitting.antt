@@ -4,6 +4,7 @@ use Rattle.std.specs.Bool.{⊤}
 use Rattle.std.specs.Result.{result_ok}
 use Rattle.std.proofs.lemmas.Fmt.{decimal_nonempty}
 use Rattle.std.proofs.lemmas.Slice.Eq.{bytes_eq-Decides}
+use Rattle.std.proofs.lemmas.Option.{same_Some}
 use lib.Seq.{length-take-le}
 use Rattle.hex.specs.declared.error.FromHexError.{FromHexError}
 use Rattle.hex.specs.declared.error.FromHexError.TheVariants.{OddLength}
@@ -46,9 +47,6 @@ FitsLine Frame = ⊤
 FitsLine (From a) = FitsPacket a
 FitsLine End = ⊤
 
-same : {A : Type 0} (a b : A) → Some a ≡ Some b → a ≡ b
-same a b e = cc
-
 -- ---- the bytes of a text
 
 decoded_half : (text bytes : List ℕ) (odd : Bool) → cond odd (Err OddLength) (decode_pairs 0 text) ≡ Ok bytes → 2 * length bytes ≤ length text
@@ -56,11 +54,11 @@ decoded_half text bytes true h = cc
 decoded_half text bytes false h = let two = (decode_pairs-ok 0 text bytes h).1 in omega (arith, two)
 
 ok_of : (r : Result (List ℕ) FromHexError) (bytes : List ℕ) → result_ok r ≡ Some bytes → r ≡ Ok bytes
-ok_of (Ok xs) bytes h = ap (λ o. Ok o) (same xs bytes h)
+ok_of (Ok xs) bytes h = ap (λ o. Ok o) (same_Some xs bytes h)
 ok_of (Err e) bytes h = cc
 
 packet_half : (text bytes : List ℕ) (dash none : Bool) → cond dash (Some []) (cond none None (result_ok (decode_of text))) ≡ Some bytes → 2 * length bytes ≤ length text
-packet_half text bytes true none h = let e : [] ≡ bytes = same [] bytes h in omega (arith, ap length e)
+packet_half text bytes true none h = let e : [] ≡ bytes = same_Some [] bytes h in omega (arith, ap length e)
 packet_half text bytes false true h = cc
 packet_half text bytes false false h = decoded_half text bytes (length text % 2 == 1) (ok_of (decode_of text) bytes h)
 
@@ -88,7 +86,7 @@ fields_long rest fields h = by_port (field_at rest) refl h
     by_test : (port packet : List ℕ × List ℕ) (b : Bool) → rest ≡ field_text port.0 ++ port.1 → port.1 ≡ field_text packet.0 ++ packet.1 → cond b (Some (port.0, packet.0)) None ≡ Some fields → AreFields rest fields
     by_test port packet true e f g =
         let P : List ℕ × List ℕ → Type 0 = AreFields rest in
-        subst P (same (port.0, packet.0) fields g) (record {
+        subst P (same_Some (port.0, packet.0) fields g) (record {
           long = omega (
             arith,
             ap length e,

@@ -7,13 +7,14 @@ use Rattle.packet_read.specs.declared.arrival.Arrival.{Arrival}
 use Rattle.plain_server.specs.RecordsById.{opening}
 use Rattle.plain_server.specs.Frames.{received_in, state_played, AreRight, AreInOrder}
 use Rattle.plain_server.proofs.Frames.{opening_is}
+use Rattle.plain_server.proofs.Turns.{right_count}
 use Rattle.demo_lines.specs.Bytes.{fault, map_of}
 use Rattle.out_text.specs.OutLines.{OutLine, EndLine, text_of}
 use Rattle.out_text.specs.FrameLines.{lines_with, run_lines}
 use Rattle.out_text.specs.Journals.{dids}
 use Rattle.out_text.specs.Collecting.{frames_of}
 use Rattle.out_text.specs.Output.{lines_in, AreRightIn, AreInOrderIn, front_text, out_text, last_of, HasLast, IsFront, IsAllFrames, IsOutput, IsPart, IsCutFrame, IsCutEnd}
-use Rattle.out_text.proofs.Runs.{length-right, run_lines-push, right-take, in_order-take, text_of-append, fewer_are_shorter}
+use Rattle.out_text.proofs.Runs.{run_lines-push, right-take, in_order-take, text_of-append, fewer_are_shorter}
 use Rattle.out_text.proofs.ReadBack.{AreAllReported, dids-run, dids-whole}
 use Rattle.out_text.proofs.Reporting.{right_are_reported}
 use Rattle.out_text.proofs.Growing.{GoesOnWith, goes_on_all, take-goes_on, length-goes_on}
@@ -110,13 +111,13 @@ module _ (workers : ℕ) (bytes : List ℕ) (arena : MapView) (played : IsPlayed
   -- the journals that are read off the text of the first frames
   pub dids-front : (closed : List (List Arrival)) (js : List (List Entry)) → GoesOnWith closed (frames_of bytes) → AreRun workers arena closed js → dids (text_with arena closed js) ≡ js
   dids-front closed js on run =
-      dids-run arena 0 (opening arena) closed js (few closed on) (length-right arena 0 (opening arena) closed js run.right) (reported closed js on run)
+      dids-run arena 0 (opening arena) closed js (few closed on) (right_count arena 0 (opening arena) closed js run.right) (reported closed js on run)
 
   -- the journals that are read off the whole output
   pub dids-out : (closed : List (List Arrival)) (js : List (List Entry)) → frames_of bytes ≡ closed → AreRun workers arena closed js → dids (whole_text arena closed js) ≡ js
   dids-out closed js all run =
       let on = goes_on_all closed (frames_of bytes) all in
-      dids-whole arena 0 (opening arena) closed js (length closed) (few closed on) (length-right arena 0 (opening arena) closed js run.right) (reported closed js on run)
+      dids-whole arena 0 (opening arena) closed js (length closed) (few closed on) (right_count arena 0 (opening arena) closed js run.right) (reported closed js on run)
 
   -- the text of the first frames
   pub front_text-is : (closed : List (List Arrival)) (js : List (List Entry)) → GoesOnWith closed (frames_of bytes) → front_text bytes (length closed) js ≡ text_with arena closed js
@@ -263,7 +264,7 @@ module _ (workers : ℕ) (bytes : List ℕ) (arena : MapView) (played : IsPlayed
   pub end_cut : (closed : List (List Arrival)) (js : List (List Entry)) (count : ℕ) → fault bytes ≡ None → frames_of bytes ≡ closed → AreRun workers arena closed js
       → count < length (text_of (EndLine (length closed) ∷ [])) → IsCutEnd workers bytes (last_of js) (text_with arena closed js ++ take count (text_of (EndLine (length closed) ∷ [])))
   end_cut closed js count accepted all run short =
-      let same = length-right arena 0 (opening arena) closed js run.right in
+      let same = right_count arena 0 (opening arena) closed js run.right in
       cut_at_end closed closed js js (EndLine (length closed) ∷ []) count accepted all run
       (fewer_are_shorter arena (opening arena) (length closed - 1) closed js same) refl short
 

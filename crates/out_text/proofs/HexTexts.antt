@@ -3,12 +3,11 @@ use Rattle.std.proofs.Common.{◌≡◌, ℕ, zero, suc, ◌+◌, ◌-◌, ◌*�
 use Rattle.std.specs.Prelude.{nat_le, slice_index}
 use Rattle.std.specs.List.{list_all, AllByRecursion}
 use Rattle.std.proofs.lemmas.Bool.Decides.{nat_tests}
-use Rattle.std.proofs.lemmas.Bool.{leb-true}
+use Rattle.std.proofs.lemmas.Bool.{leb-true, and_parts}
 use Rattle.hex.specs.declared.error.FromHexError.{FromHexError}
 use Rattle.hex.specs.declared.error.FromHexError.TheVariants.{OddLength}
 use Rattle.hex.specs.Hex.{IsBytes, lower_digits, encode_with, encode_lower, decode_of, decode_pairs, pair_value, hex_digit_value, ◌>>=◌}
 use Rattle.hex.proofs.HexLemmas.{decode_of-encode_lower, decode_of-even, length-encode_with}
-use Rattle.edge_io.proofs.Decimals.{and_parts}
 use Rattle.edge_io.proofs.FieldTexts.{AreAbove}
 use Rattle.snapshot_write.specs.declared.reply_buf.TheConstants.{REPLY_ROOM}
 use Rattle.out_text.specs.Reading.{is_lower_digit, is_hex_text, without_error, bytes_in}

@@ -1,11 +1,10 @@
 -- The map of a recording keeps the rules of maps, and a recording without a fault has one.
-use Rattle.std.proofs.Common.{◌≡◌, ℕ, Bool, true, false, not, cond, List, [], ◌∷◌, ◌++◌, Option, Some, None, IfSome, IsSome, option_map, refl, sym, ap, ◌∙◌, subst}
+use Rattle.std.proofs.Common.{◌≡◌, ℕ, Bool, true, false, not, cond, List, [], ◌∷◌, ◌++◌, Option, Some, None, IfSome, IsSome, refl, sym, ap, ◌∙◌, subst}
 use Rattle.std.specs.Bool.{⊤}
 use Rattle.edge_io.specs.WholeLines.{whole_lines}
 use Rattle.arena_map.specs.declared.limits.TheConstants.{MOST_FRAMES}
 use Rattle.arena_map.specs.declared.map_line.MapLine.{MapLine}
 use Rattle.arena_map.specs.declared.map_line.MapLine.TheVariants as of_map
-use Rattle.arena_map.specs.declared.map_fault.MapFault.{MapFault}
 use Rattle.arena_map.specs.Maps.{MapView, IsMap}
 use Rattle.arena_map.specs.MapLines.{IsWithinLimits, is_arena}
 use Rattle.arena_map.proofs.Keeping.{begun-is_map, with_line-is_map}
@@ -19,19 +18,15 @@ use Rattle.demo_lines.specs.Known.{Reading, start_within, start, is_over}
 use Rattle.demo_lines.specs.Lines.{text_of, first_word, rest_of, is_end}
 use Rattle.demo_lines.specs.Faults.{is_long, has_strange_byte, fault_of_words, fault_of, broken_by_line}
 use Rattle.demo_lines.specs.Recording.{next, after_line, after, with_map_line}
-use Rattle.demo_lines.specs.Bytes.{last_part, lines_of, refusal, refused_at, fault, map_within, map_of}
-use Rattle.demo_lines.proofs.Prefixes.{after_last}
-use Rattle.demo_lines.proofs.Taking.{IsTaken}
+use Rattle.demo_lines.specs.Bytes.{last_part, lines_of, refused_at, fault, map_within, map_of}
+use Rattle.demo_lines.proofs.Prefixes.{after_last, no_refusal}
+use Rattle.demo_lines.proofs.Taking.{IsTaken, no_rule}
 use Rattle.out_text.specs.Laws.{RecordingsHaveMaps}
 use Rattle.out_text.proofs.EachLine.{IsTakenBy, of_each_line}
 
 -- the map, where there is one, keeps the rules
 abbrev HasKeptRules : Option MapView → Type 0
 HasKeptRules m = IfSome m IsMap
-
-no_rule : (o : Option MapFault) → option_map faults.Rule o ≡ None → o ≡ None
-no_rule None h = refl
-no_rule (Some rule) h = cc
 
 -- a line of the map within its limits that breaks no rule
 map_line_keeps : (m : Option MapView) (line : MapLine) → IsWithinLimits line → broken_by_line m line ≡ None → HasKeptRules m → HasKeptRules (with_map_line m line)
@@ -130,10 +125,6 @@ part_has_fault r part A no_end none =
     let rest = cond (has_strange_byte part) (Some faults.Byte) (fault_of_words r (first_word (text_of part)) (rest_of (text_of part))) in
     let cut = ap (λ b. cond (is_long part) (Some faults.Long) (cond (not b) (Some faults.NoEnd) rest)) (sym no_end) in
     cut_has_fault (is_long part) rest A (cut ∙ none)
-
-no_refusal : (o : Option LineFault) (line : ℕ) → option_map (refusal line) o ≡ None → o ≡ None
-no_refusal None line h = refl
-no_refusal (Some why) line h = cc
 
 -- before the first line
 open_has : (r : Reading) (part : List ℕ) (end : Bool) → is_end part ≡ end → (is_end part ≡ true → false ≡ true) → fault_of r true part ≡ None → IsSome r.map

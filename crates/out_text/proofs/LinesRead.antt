@@ -5,15 +5,16 @@ use Rattle.std.specs.Int.{w32}
 use Rattle.std.specs.Fmt.{signed_decimal}
 use Rattle.std.specs.List.{list_all, AllByRecursion, slice_split, join_with_byte}
 use Rattle.std.proofs.lemmas.Bool.Decides.{nat_tests}
-use Rattle.std.proofs.lemmas.Bool.{leb-true, ltb-true}
+use Rattle.std.proofs.lemmas.Bool.{leb-true, ltb-true, and_parts}
 use Rattle.std.proofs.lemmas.Int.{ints}
 use Rattle.std.proofs.lemmas.Slice.Eq.{bytes_eq-Decides}
 use Rattle.std.proofs.lemmas.List.Splits.{join_with_byte-slice_split}
+use Rattle.std.proofs.lemmas.Option.{same_Some}
 use Rattle.arena_geo.specs.declared.vec3.Vec3.{Vec3}
 use Rattle.arena_geo.specs.Vectors.{Fits}
 use Rattle.edge_io.specs.Numbers.{natural_up_to, integer_up_to}
 use Rattle.edge_io.specs.Fields.{◌>>=◌, cut, field_at, field_text}
-use Rattle.edge_io.proofs.Decimals.{and_parts, natural-spelled, natural-decimal, integer-spelled, integer-decimal}
+use Rattle.edge_io.proofs.Decimals.{natural-spelled, natural-decimal, integer-spelled, integer-decimal}
 use Rattle.edge_io.proofs.FieldTexts.{AreAbove, IsEnd, decimal_above, signed_above, cut-field, field_at-field, cut-whole, field_at-whole}
 use Rattle.client_ports.specs.declared.refusal.Refusal.{Refusal}
 use Rattle.client_ports.specs.declared.refusal.Refusal.TheVariants.{Packet, Already, Full, Crowded, NotJoined, Leaving, Old, Many}
@@ -296,21 +297,18 @@ binds : {A B : Type 0} (o : Option A) (f : A → Option B) (y : B) → o >>= f �
 binds None f y h = cc
 binds (Some x) f y h = record { at = x; is = refl; gives = h }
 
-same : {A : Type 0} (a b : A) → Some a ≡ Some b → a ≡ b
-same a b e = cc
-
 -- a value that passed a test
 passed : {X : Type 0} (test : X → Bool) (o : Option X) (x : X) → passing test o ≡ Some x → (o ≡ Some x) × (test x ≡ true)
 passed test None x h = absurd cc
 passed test (Some y) x h = by (test y) refl h
   where
     by : (b : Bool) → test y ≡ b → cond b (Some y) None ≡ Some x → (Some y ≡ Some x) × (test x ≡ true)
-    by true e g = (g, ap test (sym (same y x g)) ∙ e)
+    by true e g = (g, ap test (sym (same_Some y x g)) ∙ e)
     by false e g = absurd cc
 
 -- nothing follows
 alone-sound : {X : Type 0} (x l : X) (rest : List ℕ) → alone x rest ≡ Some l → (rest ≡ []) × (x ≡ l)
-alone-sound x l [] h = (refl, same x l h)
+alone-sound x l [] h = (refl, same_Some x l h)
 alone-sound x l (b ∷ rest) h = absurd cc
 
 -- a number was read
@@ -324,7 +322,7 @@ number-sound limit rest n low h =
     let m = binds (natural_up_to limit field.at.0) _ n field.gives in
     let spelled = natural-spelled limit m.at field.at.0 (omega (arith, low)) m.is in
     let P : ℕ × List ℕ → Type 0 = ReadsNumber limit rest in
-    subst P (same (m.at, field.at.1) n m.gives)
+    subst P (same_Some (m.at, field.at.1) n m.gives)
     (record { most = spelled.1; spelled = field_at-whole rest field.at field.is ∙ ap (λ t. field_text t ++ field.at.1) spelled.0 })
 
 -- a coordinate was read
@@ -339,7 +337,7 @@ coordinate-sound rest z h =
     let in_range = passed is_coordinate (integer_up_to 2147483648 field.at.0) y.at y.is in
     let spelled = integer-spelled 2147483648 y.at field.at.0 (omega arith) in_range.0 in
     let P : ℤ × List ℕ → Type 0 = ReadsCoordinate rest in
-    subst P (same (y.at, field.at.1) z y.gives)
+    subst P (same_Some (y.at, field.at.1) z y.gives)
     (record {
       fits = coordinate_fits y.at in_range.1;
       spelled = field_at-whole rest field.at field.is ∙ ap (λ t. field_text t ++ field.at.1) spelled.0;
@@ -359,7 +357,7 @@ origin-sound rest o h =
     let read_y = coordinate-sound x.at.1 y.at y.is in
     let read_z = coordinate-sound y.at.1 z.at z.is in
     let P : Vec3 × List ℕ → Type 0 = ReadsOrigin rest in
-    subst P (same _ o z.gives)
+    subst P (same_Some _ o z.gives)
     (record {
       fits = record { x = read_x.fits; y = read_y.fits; z = read_z.fits };
       spelled =
@@ -386,7 +384,7 @@ there-sound (part ∷ parts) ids h = by (natural_up_to 65535 part) refl h (λ mo
         let here = natural-spelled 65535 id part (omega arith) e in
         let small = here.1 in
         let others = rest more.at more.is in
-        subst (λ (l : List ℕ). AreNumbers (part ∷ parts) l) (same (id ∷ more.at) ids more.gives)
+        subst (λ (l : List ℕ). AreNumbers (part ∷ parts) l) (same_Some (id ∷ more.at) ids more.gives)
         (record {
           spelled = ap (λ p. p ∷ parts) here.0 ∙ ap (λ ps. decimal id ∷ ps) others.spelled;
           fit = (omega (arith, small), others.fit);
@@ -415,7 +413,7 @@ ids-sound text ids h = by (bytes_eq text (codes "-")) refl h
     by : (dash : Bool) → bytes_eq text (codes "-") ≡ dash → cond dash (Some []) (all_there (map (natural_up_to 65535) (slice_split (λ b. b == 44) text))) ≡ Some ids
         → ReadsIds text ids
     by true e g =
-        subst (λ (l : List ℕ). ReadsIds text l) (same [] ids g) (record { spelled = (bytes_eq-Decides text (codes "-")).0 e; fit = tt })
+        subst (λ (l : List ℕ). ReadsIds text l) (same_Some [] ids g) (record { spelled = (bytes_eq-Decides text (codes "-")).0 e; fit = tt })
     by false e g = listed ids (there-sound (slice_split (λ b. b == 44) text) ids g)
 
 few-sound : (text ids : List ℕ) → few_ids (ids_in text) ≡ Some ids → ReadsIds text ids × (length ids ≤ 8)
@@ -430,7 +428,7 @@ found_by name (w ∷ whys) why h = by (bytes_eq (name_of w) name) refl h (found_
   where
     by : (b : Bool) → bytes_eq (name_of w) name ≡ b → cond b (Some w) (find (λ w. bytes_eq (name_of w) name) whys) ≡ Some why
         → (find (λ w. bytes_eq (name_of w) name) whys ≡ Some why → name ≡ name_of why) → name ≡ name_of why
-    by true e g rest = sym ((bytes_eq-Decides (name_of w) name).0 e) ∙ ap name_of (same w why g)
+    by true e g rest = sym ((bytes_eq-Decides (name_of w) name).0 e) ∙ ap name_of (same_Some w why g)
     by false e g rest = rest g
 
 -- ---- the whole line
@@ -528,7 +526,7 @@ packet-sound text bytes h = by (bytes_eq text (codes "-")) refl h
 
     by : (dash : Bool) → bytes_eq text (codes "-") ≡ dash → cond dash (Some []) (passing (λ (l : List ℕ). nat_le (length l) 252) (bytes_in text)) ≡ Some bytes
         → ReadsPacket text bytes
-    by true e g = subst (λ (l : List ℕ). ReadsPacket text l) (same [] bytes g) (record { spelled = (bytes_eq-Decides text (codes "-")).0 e; most = omega arith; are = tt })
+    by true e g = subst (λ (l : List ℕ). ReadsPacket text l) (same_Some [] bytes g) (record { spelled = (bytes_eq-Decides text (codes "-")).0 e; most = omega arith; are = tt })
     by false e g =
         let parts = passed (λ (l : List ℕ). nat_le (length l) 252) (bytes_in text) bytes g in
         let hex = hex-sound text bytes parts.0 in
@@ -609,7 +607,7 @@ line-sound line l h =
 
 -- no two lines in range are printed alike
 pub one_line : (l k : OutLine) → IsInRange l → IsInRange k → spelled l ≡ spelled k → l ≡ k
-one_line l k is also e = same l k (sym (line-back l is) ∙ ap line_in e ∙ line-back k also)
+one_line l k is also e = same_Some l k (sym (line-back l is) ∙ ap line_in e ∙ line-back k also)
 
 -- what is read of a line of the program's
 pub found_printed : {X : Type 0} (r : Option X) (view : X → OutLine) (line : List ℕ) → option_map view r ≡ line_in line → IfSome r (λ x. IsPrinted line (view x))

@@ -1,24 +1,20 @@
 -- The `no` and `joined` lines of a frame are the refusals and the joins of its packets, each once and in their order.
-use Rattle.std.proofs.Common.{◌≡◌, ◌≢◌, ◌⊎◌, ℕ, zero, suc, ◌+◌, ◌-◌, ◌*◌, ◌<◌, ◌≤◌, Bool, true, cond, List, [], ◌∷◌, ◌++◌, length, map, drop, All, Option, Some, slice_get, Result, Ok, Err, slice_index, refl, sym, ap, ◌∙◌, subst, inl, inr, arith, length-append, append-nil, append_assoc}
-use Rattle.std.specs.Prelude.{flat_map, count_by, nat_lt}
+use Rattle.std.proofs.Common.{◌≡◌, ◌⊎◌, ℕ, zero, suc, ◌+◌, ◌-◌, ◌*◌, ◌<◌, ◌≤◌, Bool, cond, List, [], ◌∷◌, ◌++◌, length, map, drop, All, Option, Some, slice_get, refl, sym, ap, ◌∙◌, subst, inl, inr, arith, length-append, append-nil, append_assoc}
+use Rattle.std.specs.Prelude.{flat_map, count_by}
 use Rattle.std.specs.List.Sorted.{IsStrictlyIncreasing}
 use Rattle.std.proofs.Math.Seq.{drop-append_seam}
-use Rattle.std.proofs.lemmas.Bool.{cases_eq}
-use Rattle.std.proofs.lemmas.Bool.Decides.{nat_tests}
-use Rattle.std.proofs.lemmas.List.{get_or_append_left, get_or_push, length_push, map-append}
-use Rattle.std.proofs.lemmas.List.Elements.{All-get_or, All-head, All-nil, All-push, All-tail, All-weaker}
+use Rattle.std.proofs.lemmas.List.{length_push, map-append}
+use Rattle.std.proofs.lemmas.List.Elements.{All-head, All-nil, All-push, All-tail, All-weaker}
 use Rattle.std.proofs.lemmas.List.Sums.{sum_by-append, sum_by-cons}
 use Rattle.std.proofs.lemmas.Option.{slice_get_within}
 use Rattle.entity_recs.specs.declared.rec.Rec.{Rec}
 use Rattle.entity_recs.specs.declared.effect.Entry.{Entry}
 use Rattle.entity_recs.specs.Commands.{Command}
+use Rattle.entity_recs.proofs.Ids.{rising_with}
 use Rattle.arena_map.specs.Maps.{MapView}
 use Rattle.world_tree.specs.Live.{live_in}
 use Rattle.plain_server.specs.Replies.{players_in}
 use Rattle.packet_read.specs.declared.arrival.Arrival.{Arrival}
-use Rattle.packet_read.specs.declared.packet.Packet.{Packet}
-use Rattle.packet_read.specs.declared.packet_fault.PacketFault.{PacketFault}
-use Rattle.packet_read.specs.Commands.{commands_of}
 use Rattle.packet_read.specs.Reading.{reading}
 use Rattle.client_ports.specs.declared.received.Refused.{Refused}
 use Rattle.client_ports.specs.declared.received.Joined.{Joined}
@@ -29,7 +25,8 @@ use Rattle.client_ports.specs.Laws.{IsRefused, IsJoined, IsLeave, IsMove}
 use Rattle.client_ports.specs.Frames.{leaver_count, moves_from, moves_by_packet, is_some_move, command_count, HaveFewMoves}
 use Rattle.client_ports.proofs.NewMoves.{read-few}
 use Rattle.client_ports.proofs.Facts.{one_answer}
-use Rattle.client_ports.proofs.Counts.{moves_of_commands, packets_answered}
+use Rattle.client_ports.proofs.Counts.{moves_of_commands, packets_answered, true-lt}
+use Rattle.client_ports.proofs.Rooms.{count-few}
 use Rattle.plain_server.specs.Frames.{state_after_tick, received_in, moved_by}
 use Rattle.out_text.specs.OutLines.{OutLine, FrameLine, FromLine, NoLine, JoinedLine, DidLine, ToLine, EndLine}
 use Rattle.out_text.specs.FrameLines.{no_line, joined_line, did_line, to_line, to_lines, frame_lines}
@@ -38,7 +35,7 @@ use Rattle.out_text.specs.Laws.{FramesAnswerTheirPackets}
 
 -- ---- what the lines say
 
-refusals-append : (xs ys : List OutLine) → refusals_in (xs ++ ys) ≡ refusals_in xs ++ refusals_in ys
+pub refusals-append : (xs ys : List OutLine) → refusals_in (xs ++ ys) ≡ refusals_in xs ++ refusals_in ys
 refusals-append [] ys = refl
 refusals-append (FrameLine frame ∷ xs) ys = refusals-append xs ys
 refusals-append (FromLine port bytes ∷ xs) ys = refusals-append xs ys
@@ -120,27 +117,6 @@ joins_of_frame frame lists journal records =
 
 -- ---- the receive pass
 
--- one place more, above all that are there
-rising-push : (xs : List ℕ) (n : ℕ) → IsStrictlyIncreasing xs → All (λ x. x < n) xs → IsStrictlyIncreasing (xs ++ n ∷ [])
-rising-push xs n rise below k more = by (cases_eq (k + 1) (length xs))
-  where
-    at : (i : ℕ) → i < length xs → slice_index (xs ++ n ∷ []) i ≡ slice_index xs i
-    at i inside = get_or_append_left xs (n ∷ []) 0 i inside
-
-    by : (k + 1 ≡ length xs) ⊎ (k + 1 ≢ length xs) → slice_index (xs ++ n ∷ []) k < slice_index (xs ++ n ∷ []) (k + 1)
-    by (inl end) =
-        let inside : k < length xs = omega (arith, end) in
-        let first : slice_index (xs ++ n ∷ []) k ≡ slice_index xs k = at k inside in
-        let last : slice_index (xs ++ n ∷ []) (k + 1) ≡ n = get_or_push xs n 0 (k + 1) (sym end) in
-        let less : slice_index xs k < n = All-get_or (λ x. x < n) xs k 0 inside below in
-        omega (arith, first, last, less)
-    by (inr other) =
-        let inside : k + 1 < length xs = omega (arith, other, length_push xs n, more) in
-        let first : slice_index (xs ++ n ∷ []) k ≡ slice_index xs k = at k (omega (arith, inside)) in
-        let last : slice_index (xs ++ n ∷ []) (k + 1) ≡ slice_index xs (k + 1) = at (k + 1) inside in
-        let less : slice_index xs k < slice_index xs (k + 1) = rise k inside in
-        omega (arith, first, last, less)
-
 -- at the place of a packet that gave no moves
 abbrev GaveNone : List (List Command) → ℕ → Type 0
 GaveNone given place = slice_get given place ≡ Some []
@@ -156,16 +132,13 @@ record IsAnswered (n : ℕ) (given : List (List Command)) (l : Lists) : Type 0 w
 given_by : List Command → ℕ
 given_by moves = cond (is_some_move moves) 1 0
 
-above-none : (n : ℕ) → 1 ≤ n → nat_lt 0 n ≡ true
-above-none n some = grind (arith, nat_tests)
-
 none-given : given_by [] ≡ 0
 unfolding given_by
 none-given = refl
 
 some-given : (c : Command) (moves : List Command) → given_by (c ∷ moves) ≡ 1
 unfolding given_by
-some-given c moves = ap (λ (b : Bool). cond b 1 0) (above-none (length (c ∷ moves)) (omega arith))
+some-given c moves = ap (λ (b : Bool). cond b 1 0) (true-lt (length (c ∷ moves)) (omega arith))
 
 one-given : (moves : List Command) → given_by moves ≤ 1
 one-given [] = omega (arith, none-given)
@@ -233,7 +206,7 @@ answered-step arena frame n given r a is = by (one_answer arena frame r n a)
         let all : All (GaveNone now) (places ++ n ∷ []) = All-push (GaveNone now) places n (all-before given new places is.none) here in
         subst (IsAnswered (n + 1) now) (sym f.lists) (record {
           count = count;
-          rising = subst IsStrictlyIncreasing (sym more) (rising-push places n is.rising (places-below n given places is.count is.none));
+          rising = subst IsStrictlyIncreasing (sym more) (rising_with places n is.rising (places-below n given places is.count is.none));
           none = subst (All (GaveNone now)) (sym more) all;
           few = omega (arith, length_push r.lists.refused last, is.few, given-push given new, ap given_by nothing, none-given);
         })
@@ -295,10 +268,6 @@ received-answered arena frame state arrivals =
 
 -- ---- the moves of the packets
 
-few-read : (read : Result Packet PacketFault) → ((p : Packet) → read ≡ Ok p → length (commands_of p) ≤ 3) → command_count read ≤ 3
-few-read (Err why) few = omega arith
-few-read (Ok p) few = few p refl
-
 -- at most 3 moves are at most 3 times the count
 given-few : (moves : List Command) → length moves ≤ 3 → length moves ≤ 3 * given_by moves
 given-few [] few = omega arith
@@ -322,7 +291,7 @@ all-few [] [] few = omega arith
 all-few [] (a ∷ more) few = absurd few
 all-few (moves ∷ others) [] few = absurd few
 all-few (moves ∷ others) (a ∷ more) few =
-    let three = few-read (reading a.bytes) (read-few a.bytes) in
+    let three = count-few (reading a.bytes) (read-few a.bytes) in
     let here : length moves ≤ 3 = omega (arith, few.0, three) in
     omega (arith, length-append moves (all_of others), given-few moves here, given-more moves others, all-few others more few.1)
 

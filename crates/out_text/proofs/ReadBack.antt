@@ -1,6 +1,6 @@
 -- The journals that are read off the text of frames are the journals of the frames.
 use Rattle.std.proofs.Common.{◌≡◌, ℕ, suc, ◌+◌, ◌^◌, ◌<◌, ◌≤◌, true, nat_lt, nat_le, ℤ, pos, negsuc, unsigned_abs, List, [], ◌∷◌, ◌++◌, length, map, refl, sym, ap, ◌∙◌, append_assoc, append-nil, arith}
-use Rattle.std.proofs.lemmas.Bool.{and_from}
+use Rattle.std.proofs.lemmas.Bool.{and_from, le-leb}
 use Rattle.std.proofs.lemmas.Bool.Decides.{nat_tests}
 use Rattle.std.specs.List.{list_all, AllByRecursion}
 use Rattle.entity_recs.specs.declared.effect.Entry.{Entry}
@@ -17,7 +17,7 @@ use Rattle.plain_server.specs.Replies.{players_in}
 use Rattle.out_text.specs.FrameLines.{no_line, joined_line, to_line, lines_with, run_lines}
 use Rattle.out_text.specs.Journals.{is_coordinate, is_reportable, dids}
 use Rattle.out_text.proofs.Quiet.{IsSilent, split_of, split-silent, silent_both, silent_each, dids-text}
-use Rattle.out_text.proofs.Spellings.{CanBeRead, nat_le-holds, split-lines}
+use Rattle.out_text.proofs.Spellings.{CanBeRead, split-lines}
 
 -- the entries of each journal have their places and are in range
 abbrev pub AreAllReported : List (List Entry) → Type 0
@@ -35,7 +35,7 @@ all_small : (ids : List ℕ) → AllByRecursion (λ id. id < 2 ^ 16) ids → lis
 all_small [] are = refl
 all_small (id ∷ ids) are =
     let small : id < 2 ^ 16 = are.0 in
-    and_from _ _ (nat_le-holds id 65535 (omega arith)) (all_small ids are.1)
+    and_from _ _ (le-leb id 65535 (omega arith)) (all_small ids are.1)
 
 -- and are read back
 all_read : (ids : List ℕ) → AllByRecursion (λ id. id < 2 ^ 16) ids → AllByRecursion (λ id. id ≤ 65535) ids
@@ -47,12 +47,12 @@ is_reportable-entry : (place : ℕ) (e : Entry) → IsReported place e → is_re
 is_reportable-entry place e is =
     let low : e.slot < 64 = is.slot in
     let small : e.seq < 2 ^ 32 = is.seq in
-    let slot = nat_le-holds e.slot 255 (omega arith) in
-    let seq = nat_le-holds e.seq 4294967295 (omega arith) in
+    let slot = le-leb e.slot 255 (omega arith) in
+    let seq = le-leb e.seq 4294967295 (omega arith) in
     let x = is_coordinate-near e.reply.origin.x is.origin.x in
     let y = is_coordinate-near e.reply.origin.y is.origin.y in
     let z = is_coordinate-near e.reply.origin.z is.origin.z in
-    let few = nat_le-holds (length e.reply.got) 8 is.got.few in
+    let few = le-leb (length e.reply.got) 8 is.got.few in
     let ids = and_from _ _ few (all_small e.reply.got is.got.small) in
     and_from _ _ (and_from _ _ slot seq) (and_from _ _ (and_from _ _ x (and_from _ _ y z)) ids)
 

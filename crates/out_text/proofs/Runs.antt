@@ -10,15 +10,7 @@ use Rattle.move_journal.specs.Merges.{IsInOrder}
 use Rattle.out_text.specs.OutLines.{OutLine, printed, text_of}
 use Rattle.out_text.specs.FrameLines.{lines_with, run_lines}
 
--- there is one right journal a frame
-pub length-right : (map : MapView) (frame : ℕ) (s : State) (frames : List (List Arrival)) (js : List (List Entry)) → AreRight map frame s frames js → length js ≡ length frames
-length-right map frame s [] [] right = refl
-length-right map frame s [] (j ∷ js) right = absurd right
-length-right map frame s (arrivals ∷ frames) [] right = absurd right
-length-right map frame s (arrivals ∷ frames) (j ∷ js) right =
-    ap suc (length-right map (frame + 1) (state_after map (received_in map frame s arrivals) j) frames js right.1)
-
-next_number : (frame n : ℕ) → frame + 1 + n ≡ frame + suc n
+pub next_number : (frame n : ℕ) → frame + 1 + n ≡ frame + suc n
 next_number frame n = omega arith
 
 -- the lines of frames after frames
@@ -149,7 +141,7 @@ in_order-take map frame s (suc k) (arrivals ∷ frames) (j ∷ js) order =
 pub text_of-append : (a b : List OutLine) → text_of (a ++ b) ≡ text_of a ++ text_of b
 text_of-append a b = flat_map-append printed a b
 
-same_taken : (k : ℕ) (frames : List (List Arrival)) (js : List (List Entry)) → length js ≡ length frames → length (take k js) ≡ length (take k frames)
+pub same_taken : (k : ℕ) (frames : List (List Arrival)) (js : List (List Entry)) → length js ≡ length frames → length (take k js) ≡ length (take k frames)
 same_taken zero frames js same = refl
 same_taken (suc k) [] [] same = refl
 same_taken (suc k) [] (j ∷ js) same = cc

@@ -4,14 +4,14 @@ use Rattle.std.specs.Fmt.{signed_decimal}
 use Rattle.std.specs.List.{list_all, AllByRecursion, position_or_len, join_with_byte, slice_split}
 use Rattle.std.specs.Str.{all_ascii_digits}
 use Rattle.std.proofs.lemmas.Bool.Decides.{nat_tests}
-use Rattle.std.proofs.lemmas.Bool.{leb-true}
+use Rattle.std.proofs.lemmas.Bool.{leb-true, and_parts, le-leb}
 use Rattle.std.proofs.lemmas.Slice.Eq.{bytes_eq-Decides}
 use Rattle.std.proofs.lemmas.Fmt.{digits_decimal}
 use Rattle.std.proofs.lemmas.List.Elements.{All-from_recursion}
 use Rattle.std.proofs.lemmas.List.Splits.{slice_split_none, slice_split_at}
 use Rattle.edge_io.specs.Fields.{is_space, cut, field_at}
 use Rattle.edge_io.specs.Fields.{◌>>=◌}
-use Rattle.edge_io.proofs.Decimals.{own, and_parts, first_of_decimal, natural-decimal, integer-decimal}
+use Rattle.edge_io.proofs.Decimals.{own, first_of_decimal, natural-decimal, integer-decimal}
 use Rattle.edge_io.specs.Numbers.{is_digit, natural_up_to, integer_up_to}
 use Rattle.entity_recs.specs.declared.effect.Entry.{Entry}
 use Rattle.out_text.specs.Dids.{Did, did_of}
@@ -237,9 +237,6 @@ words_on : (slot seq x y z got : List ℕ)
     ≡ codes "did" ++ 32 ∷ (slot ++ 32 ∷ (seq ++ 32 ∷ (x ++ 32 ∷ (y ++ 32 ∷ (z ++ 32 ∷ got)))))
 words_on slot seq x y z got = simp append_assoc
 
-pub nat_le-holds : (a b : ℕ) → a ≤ b → nat_le a b ≡ true
-nat_le-holds a b h = grind (arith, nat_tests)
-
 -- a line is itself
 where_spelled-same : (line : OutLine) (mark : Mark) → where_spelled (spelled line) line mark ≡ mark
 where_spelled-same line mark = ap (λ b. cond b mark Other) ((bytes_eq-Decides (spelled line) (spelled line)).1 refl)
@@ -281,7 +278,7 @@ mark-frame frame small =
     let is = decimal_spells 4294967295 frame (omega arith) small in
     mark-word (codes "frame") (decimal frame) (none_where is_space (codes "frame") refl)
     ∙ ap (frame_mark line) (number-last 4294967295 frame (decimal frame) is.none is.read)
-    ∙ ap (λ b. cond b (where_spelled line (FrameLine frame) Opens) Other) (nat_le-holds frame 4294967295 small) ∙ where_spelled-same (FrameLine frame) Opens
+    ∙ ap (λ b. cond b (where_spelled line (FrameLine frame) Opens) Other) (le-leb frame 4294967295 small) ∙ where_spelled-same (FrameLine frame) Opens
 
 -- ---- only what is printed is read
 

@@ -5,10 +5,10 @@ use Rattle.std.specs.List.{list_any}
 use Rattle.std.proofs.lemmas.Bool.{ltb-false, le-ltb, or_parts, or_from}
 use Rattle.std.proofs.lemmas.List.{nil_from_length}
 use Rattle.std.proofs.lemmas.List.Elements.{All-nil, All-cons, All-head, All-tail}
+use Rattle.byte_lists.specs.Bytes.{AreBytes}
 use Rattle.packet_read.specs.declared.block_list.CmdBlock.{CmdBlock}
 use Rattle.packet_read.specs.Spelling.{block_fields, IsAllowedBlock, BlockFits}
 use Rattle.packet_read.specs.Cause.{block_in, blocks_from, is_wrong_time, is_above_the_shot}
-use Rattle.packet_read.specs.Laws.{AreBytes}
 use Rattle.packet_read.proofs.Fields.{wish_again, wish_cells}
 
 -- ---- read as they were written

@@ -1,9 +1,11 @@
 -- The fields of a move as bytes, and read back.
-use Rattle.std.proofs.Common.{◌≡◌, ℕ, ◌+◌, ◌*◌, ◌/◌, ◌%◌, ◌^◌, ◌<◌, [], ◌∷◌, refl, arith}
+use Rattle.std.proofs.Common.{◌≡◌, ℕ, ◌+◌, ◌*◌, ◌/◌, ◌%◌, ◌^◌, ◌<◌, ◌∷◌, refl, arith, []}
 use Rattle.std.specs.Prelude.{ℤ, FitsSigned}
-use Rattle.std.specs.Int.{w16, w32, cast_signed, cast_unsigned, from_le_bytes, to_le_bytes}
+use Rattle.std.specs.Int.{w16, cast_signed, cast_unsigned, from_le_bytes, to_le_bytes}
 use Rattle.std.proofs.lemmas.Int.{ints, to_z-of_z, of_z-to_z}
 use Rattle.std.proofs.lemmas.Nat.{from_le_bytes-to_le_bytes_2, from_le_bytes-to_le_bytes_4}
+use Rattle.std.proofs.lemmas.List.Elements.{All-from_recursion}
+use Rattle.byte_lists.specs.Bytes.{AreBytes}
 use Rattle.packet_read.specs.declared.move_packet.MovePacket.{MovePacket}
 use Rattle.packet_read.specs.declared.packet.Packet.TheVariants.{Step}
 use Rattle.packet_read.specs.Spelling.{spelling, MoveFits}
@@ -18,16 +20,6 @@ pub move_again : (m : MovePacket) → MoveFits m → move_in (spelling (Step m))
 move_again m fits =
     rw (from_le_bytes-to_le_bytes_4 m.seq fits.seq, wish_again m.wish_x fits.wish_x, wish_again m.wish_y fits.wish_y) refl
 
--- four bytes are those of the number that they are read as
-pub number_cells : (a b c d : ℕ) → a < 256 → b < 256 → c < 256 → d < 256 → to_le_bytes w32 (from_le_bytes w32 (a ∷ b ∷ c ∷ d ∷ [])) ≡ a ∷ b ∷ c ∷ d ∷ []
-number_cells a b c d ha hb hc hd =
-    let n = a + b * 256 + c * 65536 + d * 16777216 in
-    let first : n % 256 ≡ a = omega arith in
-    let second : n / 256 % 256 ≡ b = omega arith in
-    let third : n / 65536 % 256 ≡ c = omega arith in
-    let fourth : n / 16777216 % 256 ≡ d = omega arith in
-    rw (first, second, third, fourth) refl
-
 -- two bytes are those of the wish that they are read as
 pub wish_cells : (a b : ℕ) → a < 256 → b < 256 → to_le_bytes w16 (cast_unsigned w16 (cast_signed w16 (from_le_bytes w16 (a ∷ b ∷ [])))) ≡ a ∷ b ∷ []
 wish_cells a b ha hb =
@@ -36,3 +28,9 @@ wish_cells a b ha hb =
     let low : n % 256 ≡ a = omega arith in
     let high : n / 256 % 256 ≡ b = omega arith in
     rw (of_z-to_z w16 n fits, low, high) refl
+
+-- the bytes of a move
+pub move-bytes : (m : MovePacket) → m.ms < 256 → m.buttons < 256 → AreBytes (spelling (Step m))
+move-bytes m ms buttons =
+    All-from_recursion (λ b. b < 256) (spelling (Step m))
+    (omega arith, (omega arith, (omega arith, (omega arith, (omega arith, (omega arith, (ms, (omega arith, (omega arith, (omega arith, (omega arith, (buttons, tt))))))))))))

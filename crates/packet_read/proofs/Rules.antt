@@ -3,19 +3,20 @@ use Rattle.std.proofs.Common.{get_or, rules, lit<, ◌∙◌, ◌++◌, ◌≡�
 use Rattle.std.specs.Int.{w32, from_le_bytes}
 use Rattle.packet_read.specs.declared.block_list.CmdBlock.{CmdBlock}
 use Rattle.std.specs.Prelude.{zero, take, drop, ◌+◌, ◌-◌, ◌*◌, ◌||◌, min, All, nat_lt, nat_le, ◌==◌, not, ◌&&◌, Option, Some, None, Result, Ok, Err, IfOk}
-use Rattle.std.proofs.lemmas.List.{get_or_default, nil_from_length, take_all}
+use Rattle.std.proofs.lemmas.List.{nil_from_length, take_all}
 use Rattle.std.proofs.lemmas.Slice.Eq.{text_from_reads}
 use Rattle.std.proofs.lemmas.Bool.Decides.{nat_tests}
 use Rattle.std.proofs.lemmas.Bool.{false≢true, ltb-false, or_parts, cases_eq}
+use Rattle.byte_lists.specs.Bytes.{AreBytes, byte}
+use Rattle.byte_lists.proofs.Bytes.{number_cells}
 use Rattle.packet_read.specs.declared.packet.Packet.{Packet}
 use Rattle.packet_read.specs.declared.packet.Packet.TheVariants.{Join, Step, Leave, Steps}
 use Rattle.packet_read.specs.declared.packet_fault.PacketFault.{PacketFault}
 use Rattle.packet_read.specs.declared.packet_fault.PacketFault.TheVariants.{Empty, Version, Kind, Short, Long, Time, Buttons, Count}
 use Rattle.packet_read.specs.Spelling.{move_fields, IsAllowedBlock, IsAllowedSteps, MoveFits, Spells}
-use Rattle.packet_read.specs.Cause.{byte, form_in, blocks_from, breaks, cause_of}
+use Rattle.packet_read.specs.Cause.{form_in, blocks_from, breaks, cause_of}
 use Rattle.packet_read.specs.Reading.{move_in, steps_in, packet_of, answer, reading}
-use Rattle.packet_read.specs.Laws.{AreBytes}
-use Rattle.packet_read.proofs.Fields.{number_cells, wish_cells}
+use Rattle.packet_read.proofs.Fields.{wish_cells}
 use Rattle.packet_read.proofs.Blocks.{blocks_spelled, blocks_fit, blocks_allowed, length_blocks}
 use Rattle.packet_read.proofs.Steps.{min_is}
 use Rattle.packet_read.proofs.Again.{packet_again}
@@ -112,7 +113,7 @@ steps_joined : (q q' xs xs' : List ℕ) (n n' : ℕ) → q ≡ q' → n ≡ n' �
 steps_joined q q' xs xs' n n' e f g = cc
 
 -- a number that isn't 0
-some_of : (n : ℕ) → (n == 0) ≡ false → 1 ≤ n
+pub some_of : (n : ℕ) → (n == 0) ≡ false → 1 ≤ n
 some_of zero e = absurd (false≢true (sym e))
 some_of (suc n) e = omega arith
 
@@ -209,10 +210,6 @@ headed k [] some e = absurd (omega (arith, some, e))
 headed k (x ∷ xs) some e =
     let all : take (length (x ∷ xs) - 1) xs ≡ xs = take_all (length (x ∷ xs) - 1) xs (omega arith) in
     rw (all, e) refl
-
--- numbers that are below 256 at each index are bytes
-pub bytes_are : (bytes : List ℕ) → ((i : ℕ) → get_or bytes i 0 < 256) → AreBytes bytes
-bytes_are bytes below k d lt = rw (get_or_default bytes k d 0 lt) (below k)
 
 -- an answer that is a packet
 answered_ok : (cause : Option PacketFault) (q p : Packet) → answer cause q ≡ Ok p → (cause ≡ None) × (q ≡ p)

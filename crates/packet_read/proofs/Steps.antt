@@ -4,6 +4,7 @@ use Rattle.std.specs.Prelude.{◌-◌, min, nat_lt, nat_le, ◌==◌, flat_map, 
 use Rattle.std.specs.Int.{w32, from_le_bytes, to_le_bytes}
 use Rattle.std.proofs.lemmas.Bool.{le-ltb, ne_eqb, or_from, and_right}
 use Rattle.std.proofs.lemmas.Nat.{from_le_bytes-to_le_bytes_4}
+use Rattle.byte_lists.specs.Bytes.{byte}
 use Rattle.packet_read.specs.declared.block_list.CmdBlock.{CmdBlock}
 use Rattle.packet_read.specs.declared.steps_packet.StepsPacket.{StepsPacket}
 use Rattle.packet_read.specs.declared.packet.Packet.{Packet}
@@ -11,7 +12,7 @@ use Rattle.packet_read.specs.declared.packet.Packet.TheVariants.{Steps}
 use Rattle.packet_read.specs.declared.packet_fault.PacketFault.{PacketFault}
 use Rattle.packet_read.specs.declared.packet_fault.PacketFault.TheVariants.{Empty, Version, Kind, Short, Long, Time, Buttons, Count}
 use Rattle.packet_read.specs.Spelling.{spelling, block_fields, IsAllowedSteps, StepsFit}
-use Rattle.packet_read.specs.Cause.{byte, blocks_from, is_wrong_count, block_fault_of}
+use Rattle.packet_read.specs.Cause.{blocks_from, is_wrong_count, block_fault_of}
 use Rattle.packet_read.specs.Reading.{answer, reading}
 use Rattle.packet_read.proofs.Blocks.{blocks_again, length_fields, times_kept, buttons_kept}
 

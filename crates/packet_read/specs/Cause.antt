@@ -1,9 +1,10 @@
 -- Why bytes are no packet: the first rule that they break.
-use Rattle.std.specs.Prelude.{ℕ, zero, suc, ◌+◌, ◌-◌, ◌*◌, min, ◌==◌, nat_lt, nat_le, Bool, false, not, ◌&&◌}
+use Rattle.std.specs.Prelude.{ℕ, zero, suc, ◌+◌, ◌-◌, ◌*◌, min, ◌==◌, nat_lt, nat_le, Bool, false, not, ◌&&◌, []}
 use Rattle.std.specs.Prelude.{◌||◌, if◌then◌else◌}
-use Rattle.std.specs.Prelude.{List, [], ◌∷◌, length, slice_index, drop, find, Option, Some, None}
+use Rattle.std.specs.Prelude.{List, ◌∷◌, length, drop, find, Option, Some, None}
 use Rattle.std.specs.List.{list_any}
 use Rattle.std.specs.Int.{w16, w32, cast_signed, from_le_bytes}
+use Rattle.byte_lists.specs.Bytes.{byte}
 use Rattle.packet_read.specs.declared.block_list.CmdBlock.{CmdBlock}
 use Rattle.packet_read.specs.declared.packet_fault.PacketFault.{PacketFault}
 use Rattle.packet_read.specs.declared.packet_fault.PacketFault.TheVariants.{Empty, Version, Kind, Short, Long, Time}
@@ -17,10 +18,6 @@ pub data Form : Type 0 where
   move : Form
   leave : Form
   steps : Form
-
--- byte i, or 0 past the end
-abbrev pub byte : List ℕ → ℕ → ℕ
-byte bytes i = slice_index bytes i
 
 -- a version that is known
 abbrev pub is_version : ℕ → Bool

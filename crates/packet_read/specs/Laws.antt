@@ -1,20 +1,17 @@
 -- What holds of spellings and causes.
-use Rattle.std.specs.Prelude.{◌≡◌, ◌↔◌, ℕ, ◌+◌, ◌^◌, ◌<◌, List, length, All, Some, None, option_map, Ok, Err}
+use Rattle.std.specs.Prelude.{◌≡◌, ◌↔◌, ℕ, ◌+◌, List, length, Some, None, option_map, Ok, Err}
 use Rattle.std.specs.List.{slice_get}
+pub use Rattle.byte_lists.specs.Bytes.{AreBytes}
 use Rattle.packet_read.specs.declared.steps_packet.StepsPacket.{StepsPacket}
 use Rattle.packet_read.specs.declared.packet.Packet.{Packet}
 use Rattle.packet_read.specs.declared.packet.Packet.TheVariants.{Steps}
 use Rattle.packet_read.specs.declared.packet_fault.PacketFault.{PacketFault}
 use Rattle.packet_read.specs.declared.block_list.TheConstants.{MOST_BLOCKS}
-use Rattle.packet_read.specs.declared.packet_bytes.TheConstants.{MAX_PACKET_BYTES}
+use Rattle.packet_read.specs.declared.packet_bytes.TheConstants.{MOST_PACKET_BYTES}
 use Rattle.packet_read.specs.Spelling.{spelling, IsAllowedSteps, Fits, Spells}
 use Rattle.packet_read.specs.Commands.{numbered, first_seq, commands_of}
 use Rattle.packet_read.specs.Cause.{cause_of}
 use Rattle.packet_read.specs.Reading.{reading}
-
--- each number is a byte
-abbrev pub AreBytes : List ℕ → Type 0
-AreBytes bytes = All (λ b. b < 2 ^ 8) bytes
 
 -- the bytes spell some packet
 pub record SpellsSome (bytes : List ℕ) : Type 0 where
@@ -37,7 +34,7 @@ pub record ReadWhereSpelled : Type 0 where
 
 -- the numbers that the lists cite
 pub record LimitsAreKnown : Type 0 where
-  pub most_bytes : MAX_PACKET_BYTES ≡ 64
+  pub most_bytes : MOST_PACKET_BYTES ≡ 64
   pub most_commands : MOST_BLOCKS ≡ 3
 
 -- a packet of version 2 has as many commands as blocks: command i, from 0, has the fields of block i, and a number i above

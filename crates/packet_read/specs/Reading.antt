@@ -1,12 +1,13 @@
 -- What bytes are read as.
 use Rattle.std.specs.Prelude.{ℕ, List, [], ◌∷◌, Option, Some, None, Result, Ok, Err}
 use Rattle.std.specs.Int.{w16, cast_signed, from_le_bytes}
+use Rattle.byte_lists.specs.Bytes.{byte}
 use Rattle.packet_read.specs.declared.move_packet.MovePacket.{MovePacket}
 use Rattle.packet_read.specs.declared.steps_packet.StepsPacket.{StepsPacket}
 use Rattle.packet_read.specs.declared.packet.Packet.{Packet}
 use Rattle.packet_read.specs.declared.packet.Packet.TheVariants.{Join, Step, Leave, Steps}
 use Rattle.packet_read.specs.declared.packet_fault.PacketFault.{PacketFault}
-use Rattle.packet_read.specs.Cause.{Form, join, move, leave, steps, byte, form_in, seq_in, blocks_in, cause_of}
+use Rattle.packet_read.specs.Cause.{Form, join, move, leave, steps, form_in, seq_in, blocks_in, cause_of}
 
 -- the move whose fields are in the bytes at their places
 abbrev pub move_in : List ℕ → MovePacket

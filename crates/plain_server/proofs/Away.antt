@@ -10,12 +10,12 @@ use Rattle.entity_recs.specs.declared.effect.Effect.{Effect}
 use Rattle.entity_recs.specs.declared.effect.Entry.{Entry}
 use Rattle.entity_recs.specs.declared.effect.NewState.{NewState}
 use Rattle.entity_recs.specs.declared.kind.Kind.{Kind}
-use Rattle.entity_recs.specs.declared.kind.Kind.TheVariants.{Ammo, Gem}
 use Rattle.entity_recs.specs.declared.rec.Rec.{Rec}
 use Rattle.entity_recs.specs.Commands.{Command}
 use Rattle.entity_recs.specs.Records.{IsIdOf, with_state}
 use Rattle.entity_recs.specs.Histories.{Item, with_new_state, commands_of}
 use Rattle.entity_recs.specs.Kinds.{is_item}
+use Rattle.entity_recs.proofs.Ids.{thing_id}
 use Rattle.arena_map.specs.declared.map_line.MapLine.{MapLine}
 use Rattle.arena_map.specs.declared.map_line.MapLine.TheVariants as lines
 use Rattle.arena_map.specs.Things.{delay_in}
@@ -78,16 +78,11 @@ pub record IsAway (records : List (Option Rec)) (id until : ℕ) : Type 0 where
   pub kind : is_item item.kind ≡ true
   pub state : item.state ≡ until
 
-pub map_id : (kind : Kind) (id : ℕ) → is_item kind ≡ true → IsIdOf kind id → 64 ≤ id
-map_id Ammo id item is = is.least
-map_id Gem id item is = is.least
-map_id kind id item is = cc
-
 -- its id is no slot
 pub away_is_thing : (map : MapView) (records : List (Option Rec)) (id until : ℕ) → IsValidWorld map records → IsAway records id until → 64 ≤ id
 away_is_thing map records id until valid away =
     let here = valid.each id away.item away.at in
-    subst (λ (k : ℕ). 64 ≤ k) here.own_id (map_id away.item.kind away.item.id away.kind here.is_record.id)
+    subst (λ (k : ℕ). 64 ≤ k) here.own_id (thing_id away.item.kind away.item.id away.kind here.is_record.id)
 
 -- ---- one command
 
@@ -217,7 +212,7 @@ module _ (map : MapView) (records : List (Option Rec)) (c : Command) (valid : Is
       let t = f.taken in
       let at : record_at records id ≡ Some t.item = ap (record_at records) (sym f.same) ∙ t.at in
       let here = valid.each id t.item at in
-      let from : 64 ≤ id = subst (λ (k : ℕ). 64 ≤ k) here.own_id (map_id t.item.kind t.item.id t.kind here.is_record.id) in
+      let from : 64 ≤ id = subst (λ (k : ℕ). 64 ≤ k) here.own_id (thing_id t.item.kind t.item.id t.kind here.is_record.id) in
       record {
         delay = t.delay;
         delay_is = ap (delay_of map) (sym f.same) ∙ t.delay_is;

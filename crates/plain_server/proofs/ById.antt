@@ -11,22 +11,11 @@ use Rattle.entity_recs.specs.declared.effect.NewState.{NewState}
 use Rattle.entity_recs.specs.Worlds.{World, nobody, record_or_nobody}
 use Rattle.entity_recs.specs.Histories.{with_effect, with_new_state}
 use Rattle.arena_map.specs.Maps.{MapView}
-use Rattle.world_tree.specs.Live.{record_at, ids_of}
+use Rattle.world_tree.specs.Live.{record_at}
+use Rattle.world_tree.proofs.Kept.{ids-kept}
 use Rattle.plain_server.specs.RecordsById.{world_of, records_in}
 use Rattle.plain_server.specs.Moving.{with_new_states, records_with}
 use Rattle.plain_server.proofs.NewStates.{IsOfLive, same_id, record_at-restated, still_at, ids-restated, count-restated, new_state-lacks}
-
--- another record of the same id leaves the live ids
-pub ids-set : (records : List (Option Rec)) (k : ℕ) (r me : Rec) → record_at records k ≡ Some r → me.id ≡ r.id
-    → ids_of (slice_set records k (Some me)) ≡ ids_of records
-ids-set [] k r me at same = refl
-ids-set (None ∷ records) zero r me at same = cc
-ids-set (Some x ∷ records) zero r me at same =
-    let here : x ≡ r = cc in
-    let id : me.id ≡ x.id = same ∙ sym (ap (λ (y : Rec). y.id) here) in
-    ap (λ (i : ℕ). i ∷ ids_of records) id
-ids-set (None ∷ records) (suc k) r me at same = ids-set records k r me at same
-ids-set (Some x ∷ records) (suc k) r me at same = ap (λ (ids : List ℕ). x.id ∷ ids) (ids-set records k r me at same)
 
 -- and what any world gives for the live records
 pub records_in-set : (w : World) (records : List (Option Rec)) (k : ℕ) (r me : Rec) → record_at records k ≡ Some r → me.id ≡ r.id
@@ -85,7 +74,7 @@ pub world_of-with : (map : MapView) (records : List (Option Rec)) (slot : ℕ) (
     → world_of (records_with records slot e) ≡ with_effect (world_of records) slot e
 world_of-with map records slot r e own below at mine items =
     let was = still_at e.states records slot r at in
-    let ids = ids-set (with_new_states e.states records) slot (with_new_state e.states r.id r) e.me was (mine ∙ sym (same_id e.states r.id r)) ∙ ids-restated e.states records in
+    let ids = ids-kept (with_new_states e.states records) slot (with_new_state e.states r.id r) e.me was (mine ∙ sym (same_id e.states r.id r)) ∙ ids-restated e.states records in
     λ i. record { ids = ids i; record_of = λ id. each id (cases_eq id slot) i }
   where
     new : List (Option Rec)

@@ -1,15 +1,15 @@
 -- The players keep room: moves end free of all solids.
-use Rattle.std.specs.Prelude.{◌≡◌, ◌≢◌, ℕ, zero, suc, ◌+◌, ◌<◌, ◌==◌, Bool, true, false, ◌||◌, not, int_lt, List, [], ◌∷◌, ◌++◌, filter, All, Option, Some, None, if◌then◌else◌}
+use Rattle.std.specs.Prelude.{◌≡◌, ◌≢◌, ℕ, zero, suc, ◌+◌, ◌<◌, ◌==◌, true, false, not, List, ◌∷◌, ◌++◌, filter, All, Option, Some, None, if◌then◌else◌}
 use Rattle.std.specs.Prelude.{map as map_list}
 use Rattle.std.specs.List.{AllByRecursion}
-use Rattle.std.proofs.Common.{refl, sym, ap, ◌∙◌, subst, inl, inr, arith}
-use Rattle.std.proofs.lemmas.Bool.{cases_Bool, cases_order, eq-eqb, ne_eqb}
+use Rattle.std.proofs.Common.{refl, sym, ap, ◌∙◌, subst, inl, inr, arith, []}
+use Rattle.std.proofs.lemmas.Bool.{cases_Bool, cases_order, eq-eqb, ne_eqb, or_parts}
 use Rattle.std.proofs.lemmas.List.Folds.{list_any-append}
 use Rattle.std.proofs.lemmas.List.Elements.{All-head, All-tail}
 use Rattle.std.proofs.lemmas.Option.{same_Some}
-use Rattle.std.proofs.Math.Bool.{and_comm}
 use Rattle.arena_geo.specs.Bounds.{Bounds}
 use Rattle.arena_geo.specs.Boxes.{overlaps, is_blocked}
+use Rattle.arena_geo.proofs.Overlaps.{overlaps-flips}
 use Rattle.entity_recs.specs.declared.kind.Kind.{Kind}
 use Rattle.entity_recs.specs.declared.kind.Kind.TheVariants.{Player}
 use Rattle.entity_recs.specs.declared.rec.Rec.{Rec}
@@ -47,17 +47,6 @@ use Rattle.plain_server.proofs.Commands.{history_has}
 use Rattle.plain_server.proofs.Frames.{received_is, state_after_is, opening_world, opening_is}
 use Rattle.plain_server.proofs.Lifts.{solids_apart}
 
-overlaps_flips : (a b : Bounds) → overlaps a b ≡ overlaps b a
-overlaps_flips a b =
-    let x = and_comm (int_lt a.lo.x b.hi.x) (int_lt b.lo.x a.hi.x) in
-    let y = and_comm (int_lt a.lo.y b.hi.y) (int_lt b.lo.y a.hi.y) in
-    let z = and_comm (int_lt a.lo.z b.hi.z) (int_lt b.lo.z a.hi.z) in
-    rw (x, y, z) refl
-
-neither : (a b : Bool) → (a || b) ≡ false → (a ≡ false) × (b ≡ false)
-neither false b h = (refl, h)
-neither true b h = cc
-
 -- the body overlaps that of no solid among the records
 abbrev IsApartFrom : Bounds → Rec → Type 0
 IsApartFrom body r = is_solid r.kind ≡ true → overlaps body (body_of r) ≡ false
@@ -78,7 +67,7 @@ apart_where_free body [] free = tt
 apart_where_free body (r ∷ rs) free = (here, apart_where_free body rs rest)
   where
     parts : is_solid r.kind ≡ true → (overlaps body (body_of r) ≡ false) × (is_blocked body (bodies_of_solids rs) ≡ false)
-    parts solid = neither (overlaps body (body_of r)) (is_blocked body (bodies_of_solids rs)) (rw solid at free)
+    parts solid = or_parts (overlaps body (body_of r)) (is_blocked body (bodies_of_solids rs)) (rw solid at free)
 
     here : IsApartFrom body r
     here solid = (parts solid).0
@@ -159,7 +148,7 @@ module _ (map : MapView) (records : List (Option Rec)) (c : Command) (is_map : I
   free_after : (is_blocked (body_of after) (solids_of map) ≡ false) × (is_blocked (body_of after) (bodies_of_solids others) ≡ false)
   unfolding solids_among
   free_after =
-      neither (is_blocked (body_of after) (solids_of map)) (is_blocked (body_of after) (bodies_of_solids others))
+      or_parts (is_blocked (body_of after) (solids_of map)) (is_blocked (body_of after) (bodies_of_solids others))
       (sym (list_any-append (overlaps (body_of after)) (solids_of map) (bodies_of_solids others)) ∙ free_then)
 
   -- after the move it is apart from each other live solid
@@ -199,7 +188,7 @@ module _ (map : MapView) (records : List (Option Rec)) (c : Command) (is_map : I
           ]
           | inr kept ↦ elim (set j (Some after)) [
             | inl there ↦
-                overlaps_flips (body_of r) (body_of s)
+                overlaps-flips (body_of r) (body_of s)
                 ∙ subst (λ (x : Rec). overlaps (body_of x) (body_of r) ≡ false) (same_Some after s (sym there.2 ∙ at_j))
                 (apart_from_each i r (sym kept ∙ at_i) (λ same. differ (same ∙ sym there.0)) solid_r)
             | inr also ↦ rest.of_each_other i j r s (sym kept ∙ at_i) (sym also ∙ at_j) solid_r solid_s differ
@@ -268,7 +257,7 @@ opening_clear map is = record {
     | inr other ↦ elim other [
       | inl before ↦ solids_apart map i j r s is (opening_thing map i r is at_i) (opening_thing map j s is at_j) solid_r solid_s before
       | inr after ↦
-          overlaps_flips (body_of r) (body_of s)
+          overlaps-flips (body_of r) (body_of s)
           ∙ solids_apart map j i s r is (opening_thing map j s is at_j) (opening_thing map i r is at_i) solid_s solid_r after
     ]
   ];

@@ -20,6 +20,7 @@ use Rattle.arena_map.specs.Maps.{MapView, IsMap}
 use Rattle.arena_map.specs.Validity.{IsValidWorld}
 use Rattle.arena_actions.proofs.OnMaps.{stay_movers}
 use Rattle.world_tree.specs.Live.{record_at}
+use Rattle.world_tree.proofs.LiveRecords.{live_below}
 use Rattle.packet_read.specs.declared.arrival.Arrival.{Arrival}
 use Rattle.client_ports.specs.Clients.{client_at}
 use Rattle.client_ports.specs.States.{State, IsServerState}
@@ -33,7 +34,7 @@ use Rattle.plain_server.specs.Entries.{IsReception}
 use Rattle.plain_server.specs.Frames.{received_in, moved_by, state_after, IsRightAfter}
 use Rattle.plain_server.specs.Ends.{HasNoEntryOf, IsLastEntry, IsAsReported, unhurt}
 use Rattle.plain_server.specs.Laws.{FramesEndWithTheirMoves}
-use Rattle.plain_server.proofs.Players.{live_record, live_below, slot_is_player}
+use Rattle.plain_server.proofs.Players.{live_record, slot_is_player}
 use Rattle.plain_server.proofs.NewStates.{restated, record_at-restated, count-restated, Lacks, new_state-lacks}
 use Rattle.plain_server.proofs.Takes.{IsChange, Takes, Hurts, changed_in}
 use Rattle.plain_server.proofs.Moves.{after_all, after_all-are}

@@ -13,13 +13,14 @@ use Rattle.arena_map.specs.Maps.{MapView, IsMap}
 use Rattle.arena_map.specs.Validity.{IsValidRecord, IsValidWorld}
 use Rattle.arena_actions.specs.Outcomes.{outcome_on}
 use Rattle.world_tree.specs.Live.{record_at}
+use Rattle.world_tree.proofs.LiveRecords.{live_below}
 use Rattle.client_ports.proofs.Valid.{valid-with}
 use Rattle.plain_server.specs.RecordsById.{world_of, records_in}
 use Rattle.plain_server.specs.Moving.{HasLivePlayer, effect_among, with_new_states, records_after, HaveMoved}
 use Rattle.plain_server.proofs.NewStates.{same_id, still_at, live-restated, count-restated, records_in-restated, valid-restated}
 use Rattle.plain_server.proofs.ById.{records_in-set, records_in-world_of, world_of-with}
 use Rattle.plain_server.proofs.OneMove.{valid_after_command}
-use Rattle.plain_server.proofs.Players.{live_record, live_below, slot_is_player}
+use Rattle.plain_server.proofs.Players.{live_record, slot_is_player}
 use Rattle.plain_server.proofs.Takes.{of_live}
 
 -- after its move a live player's record is valid

@@ -1,5 +1,5 @@
 -- Records by id with new states: each record is the one it was, but for its state, and the same ids are live.
-use Rattle.std.proofs.Common.{◌≡◌, ◌≢◌, ℕ, zero, suc, ◌==◌, true, List, [], ◌∷◌, ◌++◌, length, Option, Some, None, is_some, inl, inr, refl, sym, ap, ◌∙◌, subst}
+use Rattle.std.proofs.Common.{◌≡◌, ◌≢◌, ℕ, zero, suc, ◌==◌, List, [], ◌∷◌, ◌++◌, length, Option, Some, None, is_some, inl, inr, refl, sym, ap, ◌∙◌, subst}
 use Rattle.std.specs.Prelude.{All}
 use Rattle.std.specs.List.{find}
 use Rattle.std.specs.Option.{option_map}
@@ -9,11 +9,10 @@ use Rattle.std.proofs.lemmas.List.Elements.{All-head, All-tail}
 use Rattle.std.proofs.lemmas.Option.{same_Some, none-some}
 use Rattle.arena_geo.specs.Boxes.{overlaps, is_blocked}
 use Rattle.entity_recs.specs.declared.effect.NewState.{NewState}
-use Rattle.entity_recs.specs.declared.kind.Kind.{Kind}
-use Rattle.entity_recs.specs.declared.kind.Kind.TheVariants.{Player, Ammo, Gem}
+use Rattle.entity_recs.specs.declared.kind.Kind.TheVariants.{Player}
 use Rattle.entity_recs.specs.declared.rec.Rec.{Rec}
 use Rattle.entity_recs.specs.Bodies.{body_of}
-use Rattle.entity_recs.specs.Kinds.{is_solid, is_item}
+use Rattle.entity_recs.specs.Kinds.{is_solid}
 use Rattle.entity_recs.specs.Records.{with_state}
 use Rattle.entity_recs.specs.Worlds.{World}
 use Rattle.entity_recs.specs.Histories.{with_new_state}
@@ -112,11 +111,6 @@ pub record IsOfLive (map : MapView) (records : List (Option Rec)) (s : NewState)
   pub owner : Rec
   pub at : record_at records s.id ≡ Some owner
   pub fits : IsStateOn map owner.kind s.state
-
-pub item_state : (map : MapView) (kind : Kind) (state : ℕ) → is_item kind ≡ true → IsStateOn map kind state
-item_state map Ammo state item = tt
-item_state map Gem state item = tt
-item_state map kind state item = cc
 
 -- a new state is one of its record's kind
 pub state_fits : (map : MapView) (records : List (Option Rec)) (states : List NewState) (id : ℕ) (r : Rec) → record_at records id ≡ Some r → All (IsOfLive map records) states → IsStateOn map r.kind r.state

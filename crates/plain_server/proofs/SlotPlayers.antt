@@ -1,12 +1,12 @@
 -- The live players are the records of the slots.
-use Rattle.std.proofs.Common.{◌≡◌, ℕ, zero, suc, ◌<◌, ◌≤◌, Bool, true, false, cond, List, [], ◌∷◌, ◌++◌, length, filter, take, Option, Some, None, refl, ap, arith}
-use Rattle.std.specs.Option.{option_to_list}
+use Rattle.std.proofs.Common.{◌≡◌, ℕ, zero, suc, ◌<◌, ◌≤◌, Bool, true, false, cond, List, [], ◌∷◌, length, filter, take, Option, Some, None, refl, ap, arith}
 use Rattle.entity_recs.specs.declared.kind.Kind.{Kind}
 use Rattle.entity_recs.specs.declared.kind.Kind.TheVariants.{Player, Ammo, Gem, Teleporter, Goal, Lift}
 use Rattle.entity_recs.specs.declared.rec.Rec.{Rec}
 use Rattle.entity_recs.specs.Records.{IsIdOf}
 use Rattle.world_tree.specs.Live.{record_at, live_in, AreEntries}
 use Rattle.world_physics.specs.LiftSteps.{is_player}
+use Rattle.world_physics.proofs.Finding.{kind_past}
 use Rattle.plain_server.specs.Replies.{players_in}
 
 -- the test of a player
@@ -51,30 +51,13 @@ slot_is_player Teleporter id is below = absurd (omega arith)
 slot_is_player Goal id is below = absurd (omega arith)
 slot_is_player Lift id is below = absurd (omega arith)
 
-other_is_none : (kind : Kind) (id : ℕ) → IsIdOf kind id → 64 ≤ id → is_player kind ≡ false
-other_is_none Player id is above = let below : id < 64 = is in absurd (omega arith)
-other_is_none Ammo id is above = refl
-other_is_none Gem id is above = refl
-other_is_none Teleporter id is above = refl
-other_is_none Goal id is above = refl
-other_is_none Lift id is above = refl
-
 -- the live players are the live records of the first 64 ids
 pub players_are_first : (records : List (Option Rec)) → AreEntries records → players_in records ≡ live_in (take 64 records)
 players_are_first records entries =
     first_are 64 records (record {
       before = λ id r at below. slot_is_player r.kind r.id (entries id r at).is_record.id (let own : r.id ≡ id = (entries id r at).own_id in omega arith);
-      after = λ id r at above. other_is_none r.kind r.id (entries id r at).is_record.id (let own : r.id ≡ id = (entries id r at).own_id in omega arith);
+      after = λ id r at above. kind_past r.kind r.id (entries id r at).is_record.id (let own : r.id ≡ id = (entries id r at).own_id in omega arith);
     })
-
--- the live records of the first places, and of one more
-pub live-suc : (records : List (Option Rec)) (k : ℕ) → live_in (take (suc k) records) ≡ live_in (take k records) ++ option_to_list (record_at records k)
-live-suc [] zero = refl
-live-suc [] (suc k) = refl
-live-suc (None ∷ records) zero = refl
-live-suc (Some r ∷ records) zero = refl
-live-suc (None ∷ records) (suc k) = live-suc records k
-live-suc (Some r ∷ records) (suc k) = ap (λ (rs : List Rec). r ∷ rs) (live-suc records k)
 
 -- they are no more than the places
 pub few_first : (records : List (Option Rec)) (k : ℕ) → length (live_in (take k records)) ≤ k

@@ -14,6 +14,7 @@ use Rattle.entity_recs.specs.Records.{with_state}
 use Rattle.entity_recs.specs.Commands.{Command}
 use Rattle.entity_recs.specs.Worlds.{others_of, record_or_nobody}
 use Rattle.entity_recs.specs.Histories.{Action, with_new_state}
+use Rattle.entity_recs.proofs.Ids.{thing_id}
 use Rattle.arena_map.specs.Maps.{MapView}
 use Rattle.arena_map.specs.Validity.{IsPlayerState, IsPlayerStateOn, IsStateOn, IsValidWorld}
 use Rattle.arena_actions.specs.Outcomes.{shot_outcome, outcome_on}
@@ -27,7 +28,6 @@ use Rattle.plain_server.proofs.Hits.{IsHitState}
 use Rattle.plain_server.proofs.NewStates.{record_at-restated, still_at, Lacks, new_state-lacks, new_state-last}
 use Rattle.plain_server.proofs.Takes.{IsTakenIn, HitsNobody, HitsOne, IsDone, ids_of, done, lacks_what_lacks}
 use Rattle.plain_server.proofs.Players.{slot_is_player}
-use Rattle.plain_server.proofs.Away.{map_id}
 
 -- what an effect does to the player of a slot that isn't the mover's: it hits it, or leaves it as it is
 pub data IsHitOrNot (frame slot : ℕ) (e : Effect) (r : Rec) : Type 0 where
@@ -87,7 +87,7 @@ module _ (map : MapView) (records : List (Option Rec)) (c : Command) (valid : Is
   taken_is_thing : (s : NewState) → IsTakenIn map records c.frame s → 64 ≤ s.id
   taken_is_thing s t =
       let here = valid.each s.id t.item t.at in
-      subst (λ (k : ℕ). 64 ≤ k) here.own_id (map_id t.item.kind t.item.id t.kind here.is_record.id)
+      subst (λ (k : ℕ). 64 ≤ k) here.own_id (thing_id t.item.kind t.item.id t.kind here.is_record.id)
 
   -- so it isn't that of a slot
   taken_lack : (slot : ℕ) (states : List NewState) → slot < 64 → All (IsTakenIn map records c.frame) states → Lacks states slot

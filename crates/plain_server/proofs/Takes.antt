@@ -24,10 +24,11 @@ use Rattle.arena_actions.specs.Outcomes.{moved_among, effect_of, outcome_in, ris
 use Rattle.arena_actions.specs.Lawful.Moves.{take_what_is_there}
 use Rattle.arena_actions.proofs.OnMaps.{IsMove, IsPlain, Lies, Shoots, is_move}
 use Rattle.world_tree.specs.Live.{record_at}
+use Rattle.world_physics.proofs.Valid.{item_state}
 use Rattle.plain_server.specs.RecordsById.{world_of}
 use Rattle.plain_server.specs.Moving.{effect_among}
 use Rattle.plain_server.proofs.Hits.{IsHitState, hit_state}
-use Rattle.plain_server.proofs.NewStates.{IsOfLive, item_state, Lacks}
+use Rattle.plain_server.proofs.NewStates.{IsOfLive, Lacks}
 use Rattle.plain_server.proofs.Others.{IsOther, others_at}
 
 -- the new state is that of an item among the records: the item was there, and returns after its delay

@@ -82,7 +82,7 @@ right_each map frame state (a ∷ frames) [] right = absurd right
 right_each map frame state (a ∷ frames) (j ∷ js) right =
     each_of (IsRightAfter map) map frame state a frames j js right.0 (right_each map (frame + 1) (state_after map (received_in map frame state a) j) frames js right.1)
 
-right_count : (map : MapView) (frame : ℕ) (state : State) (frames : List (List Arrival)) (journals : List (List Entry)) → AreRight map frame state frames journals → length journals ≡ length frames
+pub right_count : (map : MapView) (frame : ℕ) (state : State) (frames : List (List Arrival)) (journals : List (List Entry)) → AreRight map frame state frames journals → length journals ≡ length frames
 right_count map frame state [] [] right = refl
 right_count map frame state [] (j ∷ js) right = absurd right
 right_count map frame state (a ∷ frames) [] right = absurd right

@@ -1,7 +1,7 @@
 -- What stairs are: up, along the level, and down again.
-use Rattle.std.proofs.Common.{◌≡◌, ℕ, zero, suc, ◌+◌, ◌-◌, ◌*◌, ◌/◌, ◌<◌, ◌≤◌, Bool, true, false, ◌⊎◌, inl, inr, List, ℤ, pos, neg_ℤ, ◌+ℤ◌, refl, sym, ap, ◌∙◌, subst, arith}
-use Rattle.std.proofs.Math.Nat.{zero-div, mul-div_cancel_left}
-use Rattle.std.proofs.lemmas.Bool.{cases_lt}
+use Rattle.std.proofs.Common.{◌≡◌, ℕ, zero, suc, ◌+◌, ◌-◌, ◌<◌, ◌≤◌, true, false, ◌⊎◌, inl, inr, List, ℤ, pos, neg_ℤ, ◌+ℤ◌, refl, sym, ap, ◌∙◌, subst, arith}
+use Rattle.std.proofs.Math.Nat.{mul-div_cancel_left}
+use Rattle.std.proofs.lemmas.Bool.{cases_lt, true_from_ne_false}
 use Rattle.std.proofs.lemmas.Int.{ints}
 use Rattle.arena_geo.specs.declared.vec3.Vec3.{Vec3}
 use Rattle.arena_geo.specs.Vectors.{vector, plus}
@@ -12,6 +12,7 @@ use Rattle.box_trace.specs.Traces.{trace_of}
 use Rattle.box_trace.proofs.Parts.{part_at-neg, unsigned_abs-part_at}
 use Rattle.box_trace.proofs.FirstMeetings.{IsFree-more}
 use Rattle.box_trace.proofs.Traces.{IsTrace-trace_of}
+use Rattle.box_trace.proofs.HitAxes.{part_at-none}
 use Rattle.slide_move.specs.declared.slid.Slid.{Slid}
 use Rattle.slide_move.specs.Slides.{slide_of}
 use Rattle.slide_move.proofs.Slides.{shift_is_part}
@@ -20,20 +21,16 @@ use Rattle.player_move.specs.Walks.{upwards, downwards, level, ground_of, way_of
 use Rattle.player_move.specs.Laws.{AreStairs, StairsGoUpAndDown}
 
 -- ---- each step of a way up or down is 1 high
-part_at-nothing : (n k : ℕ) → part_at n k (pos 0) ≡ pos 0
-part_at-nothing n k =
-    let none : 0 * k ≡ 0 = omega arith in
-    ap pos (ap (λ (m : ℕ). m / n) none ∙ zero-div n)
 
 part_at-up : (n k : ℕ) → k ≤ n → part_at n k (pos n) ≡ pos k
 part_at-up zero k within =
-    let none : k ≡ 0 = omega arith in part_at-nothing 0 k ∙ ap pos (sym none)
+    let none : k ≡ 0 = omega arith in part_at-none 0 k ∙ ap pos (sym none)
 part_at-up (suc n) k within =
     let positive : zero < suc n = omega arith in ap pos (mul-div_cancel_left k positive)
 
 part_at-down : (n k : ℕ) → k ≤ n → part_at n k (neg_ℤ (pos n)) ≡ neg_ℤ (pos k)
 part_at-down zero k within =
-    let none : k ≡ 0 = omega arith in part_at-nothing 0 k ∙ ap (λ (m : ℕ). neg_ℤ (pos m)) (sym none)
+    let none : k ≡ 0 = omega arith in part_at-none 0 k ∙ ap (λ (m : ℕ). neg_ℤ (pos m)) (sym none)
 part_at-down (suc n) k within =
     let positive : zero < suc n = omega arith in
     part_at-neg (suc n) k n ∙ ap (λ (m : ℕ). neg_ℤ (pos m)) (mul-div_cancel_left k positive)
@@ -47,13 +44,13 @@ steps_down n = omega (arith, ints)
 shift_at-upwards : (n k : ℕ) → k ≤ n → shift_at (upwards n) k ≡ upwards k
 shift_at-upwards n k within =
     let z = ap (λ (m : ℕ). part_at m k (pos n)) (steps_up n) ∙ part_at-up n k within in
-    let none = part_at-nothing (step_count (upwards n)) k in
+    let none = part_at-none (step_count (upwards n)) k in
     λ i. record { x = none i; y = none i; z = z i }
 
 shift_at-downwards : (n k : ℕ) → k ≤ n → shift_at (downwards n) k ≡ downwards k
 shift_at-downwards n k within =
     let z = ap (λ (m : ℕ). part_at m k (neg_ℤ (pos n))) (steps_down n) ∙ part_at-down n k within in
-    let none = part_at-nothing (step_count (downwards n)) k in
+    let none = part_at-none (step_count (downwards n)) k in
     λ i. record { x = none i; y = none i; z = z i }
 
 -- ---- where the way down ends
@@ -79,15 +76,11 @@ goes_on body n k solids is more free =
     let next = trace.most ((trace_of body (downwards n) solids).steps + 1) (omega (arith, steps_down n)) (IsFree-more body (downwards n) solids _ trace.free (subst P is free)) in
     omega (arith, next)
 
-is_true : (b : Bool) → (b ≡ false → ⊥) → b ≡ true
-is_true true h = refl
-is_true false h = absurd (h refl)
-
 ends_at : (body : Bounds) (n k : ℕ) (solids : List Bounds) → k ≡ (trace_of body (downwards n) solids).steps
     → (n ≤ k) ⊎ (ground_of (moved body (downwards k)) solids ≡ true)
 ends_at body n k solids is =
     elim (cases_lt k n) [
-      | inl more ↦ inr (blocked_below body n k solids (omega (arith, more)) ∙ is_true _ (goes_on body n k solids is more))
+      | inl more ↦ inr (blocked_below body n k solids (omega (arith, more)) ∙ true_from_ne_false _ (goes_on body n k solids is more))
       | inr all ↦ inl all
     ]
 

@@ -6,6 +6,7 @@ use Rattle.arena_geo.specs.Vectors.{plus, zero_vector}
 use Rattle.arena_geo.specs.Bounds.{Bounds}
 use Rattle.arena_geo.specs.Boxes.{contains_on, contains, grown, moved}
 use Rattle.arena_geo.proofs.Containment.{all_three}
+use Rattle.arena_geo.proofs.Vectors.{plus-zero_vector}
 use Rattle.box_trace.specs.Steps.{shift_at}
 use Rattle.box_trace.specs.Traces.{trace_of}
 use Rattle.box_trace.proofs.Traces.{IsTrace-trace_of}
@@ -14,7 +15,7 @@ use Rattle.slide_move.specs.declared.slid.Slid.{Slid}
 use Rattle.slide_move.specs.Displacements.{distance, displacement}
 use Rattle.slide_move.specs.Slides.{slide_of}
 use Rattle.slide_move.specs.Changes.{IsPartOfWay}
-use Rattle.slide_move.proofs.Ways.{plus-zero_vector, moved-moved, IsPartOfWay-zero_vector, IsPartOfWay-shift_at}
+use Rattle.slide_move.proofs.Ways.{moved-moved, IsPartOfWay-zero_vector, IsPartOfWay-shift_at}
 use Rattle.slide_move.proofs.Slides.{shift_is_part}
 use Rattle.player_move.specs.declared.walk.Walked.{Walked}
 use Rattle.player_move.specs.Velocities.{walks, velocity_after}

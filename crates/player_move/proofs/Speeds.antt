@@ -1,5 +1,5 @@
 -- How fast a move slides at most.
-use Rattle.std.proofs.Common.{ℕ, ◌+◌, ◌*◌, ◌/◌, ◌≤◌, min, Bool, true, false, ℤ, unsigned_abs, arith}
+use Rattle.std.proofs.Common.{ℕ, ◌+◌, ◌≤◌, min, Bool, true, false, ℤ, unsigned_abs, arith}
 use Rattle.std.proofs.lemmas.Int.{ints, clamps}
 use Rattle.arena_geo.specs.declared.vec3.Vec3.{Vec3}
 use Rattle.entity_recs.specs.declared.rec.Rec.{Rec}
@@ -8,6 +8,7 @@ use Rattle.speed_rules.specs.Rules.{jumped, friction_of, gravity_of, cut, unclam
 use Rattle.speed_rules.specs.Changes.{Shortens, AddsAtMost}
 use Rattle.speed_rules.proofs.Slowing.{friction_shortens}
 use Rattle.speed_rules.proofs.Pushing.{acceleration_is_bounded}
+use Rattle.speed_rules.proofs.Together.{most_gained}
 use Rattle.player_move.specs.Velocities.{jumps, velocity_after}
 
 -- each part is at most so much farther from 0
@@ -36,20 +37,17 @@ faster_flying v launched new most ms few brief from adds = record {
   z = omega (arith, ints, from.z, adds.z);
 }
 
-most_added : (ms : ℕ) → ms ≤ 50 → 10 * 81920 * ms / 1000 ≤ 40960
-most_added ms brief = omega arith
-
 -- no rule but the clamp changes a part of the velocity by more than the greatest wish
 pub unclamped_is_faster : (on_ground jump : Bool) (v : Vec3) (wish_x wish_y : ℤ) (ms : ℕ) → ms ≤ 50 → IsFaster v 81920 (unclamped on_ground jump v wish_x wish_y ms)
 unclamped_is_faster true false v wish_x wish_y ms brief =
     let slower = friction_of v ms in
-    faster_walking v slower _ _ (most_added ms brief) (friction_shortens v ms) (acceleration_is_bounded slower wish_x wish_y ms true)
+    faster_walking v slower _ _ (most_gained ms brief) (friction_shortens v ms) (acceleration_is_bounded slower wish_x wish_y ms true)
 unclamped_is_faster true true v wish_x wish_y ms brief =
-    faster_flying v (jumped v) _ _ ms (most_added ms brief) brief
+    faster_flying v (jumped v) _ _ ms (most_gained ms brief) brief
     (record { x = omega arith; y = omega arith; z = omega (arith, ints) })
     (acceleration_is_bounded (jumped v) wish_x wish_y ms false)
 unclamped_is_faster false jump v wish_x wish_y ms brief =
-    faster_flying v v _ _ ms (most_added ms brief) brief
+    faster_flying v v _ _ ms (most_gained ms brief) brief
     (record { x = omega arith; y = omega arith; z = omega arith })
     (acceleration_is_bounded v wish_x wish_y ms false)
 

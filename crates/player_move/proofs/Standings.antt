@@ -1,5 +1,5 @@
 -- When a body is on the ground.
-use Rattle.std.proofs.Common.{◌≡◌, ℕ, ◌<◌, ℤ, pos, neg_ℤ, ◌+ℤ◌, ◌<ℤ◌, Bool, true, false, ◌&&◌, List, length, slice_index_or, All, refl, sym, ap, subst, ◌∙◌, arith}
+use Rattle.std.proofs.Common.{◌≡◌, ℕ, ◌<◌, ℤ, pos, neg_ℤ, ◌+ℤ◌, ◌<ℤ◌, Bool, true, false, List, length, slice_index_or, All, refl, sym, ap, subst, ◌∙◌, arith}
 use Rattle.std.proofs.lemmas.Int.{ints}
 use Rattle.std.proofs.lemmas.Bool.{both_ways}
 use Rattle.std.proofs.lemmas.List.Folds.{Any-from_list_any, list_any_at}
@@ -7,16 +7,10 @@ use Rattle.arena_geo.specs.Bounds.{Bounds}
 use Rattle.arena_geo.specs.Boxes.{overlaps_on, overlaps, moved, is_blocked}
 use Rattle.arena_geo.specs.Laws.{HasInside}
 use Rattle.arena_geo.proofs.Containment.{three_pass, all_three}
+use Rattle.arena_geo.proofs.Overlaps.{overlaps_on-stays, third_fails}
 use Rattle.player_move.specs.Walks.{downwards, ground_of}
 use Rattle.player_move.specs.Moves.{move_of}
 use Rattle.player_move.specs.Laws.{StandsOn, OnGroundIsStanding, GroundIsTested}
-
--- moving by 0 changes nothing
-overlaps_on-stays : (lo hi l h : ℤ) → overlaps_on (lo +ℤ pos 0) (hi +ℤ pos 0) l h ≡ overlaps_on lo hi l h
-overlaps_on-stays lo hi l h =
-    let low : lo +ℤ pos 0 ≡ lo = omega (arith, ints) in
-    let high : hi +ℤ pos 0 ≡ hi = omega (arith, ints) in
-    rw (low, high) refl
 
 -- what an interval first meets 1 lower ends where it begins
 ends_there : (lo hi l h : ℤ) → lo <ℤ hi → l <ℤ h → overlaps_on lo hi l h ≡ false
@@ -26,11 +20,6 @@ ends_there lo hi l h long other_long apart meets = grind (arith, ints)
 met_lower : (lo hi l h : ℤ) → lo <ℤ hi → l <ℤ h → h ≡ lo
     → overlaps_on (lo +ℤ neg_ℤ (pos 1)) (hi +ℤ neg_ℤ (pos 1)) l h ≡ true
 met_lower lo hi l h long other_long top = grind (arith, ints)
-
-third_fails : (a b c : Bool) → (a && b && c) ≡ false → a ≡ true → b ≡ true → c ≡ false
-third_fails true true c h p q = h
-third_fails true false c h p q = cc
-third_fails false b c h p q = cc
 
 stands_on : (body solid : Bounds) → HasInside body → HasInside solid → overlaps body solid ≡ false
     → overlaps (moved body (downwards 1)) solid ≡ true → StandsOn body solid

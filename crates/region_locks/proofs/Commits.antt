@@ -1,6 +1,7 @@
 -- A pass commits.
-use Rattle.std.proofs.Common.{◌≡◌, ℕ, suc, ◌+◌, Bool, true, false, if◌then◌else◌, List, [], ◌∷◌, refl, ap, Option, Some, None, is_some, arith, IfSome, IsSomeAnd}
+use Rattle.std.proofs.Common.{◌≡◌, ℕ, ◌+◌, Bool, true, false, if◌then◌else◌, List, [], ◌∷◌, refl, ap, Option, Some, None, is_some, IfSome, IsSomeAnd}
 use Rattle.std.proofs.lemmas.Bool.{false≢true}
+use Rattle.std.proofs.Math.Numerals.{suc-eq-add-one}
 use Rattle.entity_recs.specs.declared.effect.Effect.{Effect}
 use Rattle.entity_recs.specs.declared.effect.Reply.{Reply}
 use Rattle.entity_recs.specs.declared.effect.Entry.{Entry}
@@ -36,9 +37,6 @@ quit_commits : {R : Type 0} (o : Option ℕ) → is_commit (quitting o) ≡ true
 quit_commits None e = not_true e
 quit_commits (Some node) e = not_true e
 
-one_more : (n : ℕ) → suc n ≡ n + 1
-one_more n = omega arith
-
 -- the first of two effects is there where either is
 kept_first : (kept in_view : Option Effect) → is_some kept ≡ true → is_some (first_effect kept in_view) ≡ true
 kept_first None in_view is = not_true is
@@ -50,7 +48,7 @@ viewed_first (Some e) in_view is = refl
 
 module _ (F : Fixed) (p : PassView) where
   commits_with : (e : Effect) (nodes : List ℕ) → is_some (effect_in_hand p) ≡ true → Commits F p (CommitMove e nodes)
-  commits_with e nodes has = record { index = refl; left = one_more; has_effect = has }
+  commits_with e nodes has = record { index = refl; left = suc-eq-add-one; has_effect = has }
 
   commits_claimed : (o : Option Effect) (nodes : List ℕ) → p.view.effect ≡ o → is_commit_next (committing o nodes) ≡ true → Commits F p (the_next (committing o nodes))
   commits_claimed None nodes same e = not_true e

@@ -1,5 +1,5 @@
 -- Passes whose seats are ended into the first one's, one after another.
-use Rattle.std.proofs.Common.{◌≡◌, ℕ, zero, suc, ◌+◌, ◌<◌, ◌≤◌, ◌↔◌, Bool, true, false, IsTrue, List, [], ◌∷◌, ◌++◌, map, length, refl, sym, ap, ◌∙◌, subst, arith, All, slice_index_or, Option, Some, None, drop, append_assoc, length-append}
+use Rattle.std.proofs.Common.{◌≡◌, ℕ, zero, suc, ◌<◌, ◌≤◌, ◌↔◌, Bool, true, false, IsTrue, List, [], ◌∷◌, ◌++◌, map, length, refl, sym, ap, ◌∙◌, subst, arith, All, slice_index_or, Option, Some, None, drop, append_assoc, length-append, add_assoc}
 use Rattle.std.proofs.lemmas.List.{length-map, append-nil}
 use Rattle.std.specs.List.{range_with_len}
 use Rattle.std.proofs.lemmas.List.Elements.{recursion_from_All, All-from_recursion}
@@ -14,6 +14,7 @@ use Rattle.ruled_words.specs.Going.{IsAtRest}
 use Rattle.ruled_words.specs.Passes.{PassView, RefusalIsListed, sight_of, IsPassOf}
 use Rattle.region_locks.specs.Closing.{tally_of_all, AreRefusalsHeld, HasNoCommand, with_passes_ended, sight_at_end, log_from}
 use Rattle.ruled_words.proofs.Takings.{one_in_front, one_in_back}
+use Rattle.ruled_words.proofs.HandSteps.{no_more}
 
 -- the pass can be ended
 pub record CanEnd (table : TableId) (p : PassView) : Type 0 where
@@ -117,13 +118,6 @@ next_ended table all items left p at at' me me' other given given' log fits is f
     let whole = put_last fits given given' log fit (has_room table all p left at me given now few) put in
     let sight : me' ≡ with_one_ended me (sight_of p) = ended ∙ ap (λ (m : SightView). with_one_ended me m) seat in
     rw (whole, here, own) (goes_on table all p left at me me' given now sight)
-
--- what the seat that is left did is what all passes did
-no_more : (n : ℕ) → n ≡ n + 0
-no_more n = omega arith
-
-add_assoc : (a b c : ℕ) → (a + b) + c ≡ a + (b + c)
-add_assoc a b c = omega arith
 
 both_assoc : (a b c : Tally) → tally_of_both (tally_of_both a b) c ≡ tally_of_both a (tally_of_both b c)
 both_assoc a b c i = record { begun = add_assoc a.begun b.begun c.begun i; served = append_assoc a.served b.served c.served i; refused = append_assoc a.refused b.refused c.refused i }

@@ -2,6 +2,7 @@
 use Rattle.std.proofs.Common.{◌≡◌, ℕ, ◌+◌, ◌<◌, Bool, true, false, if◌then◌else◌, List, [], ◌∷◌, length, refl, sym, ap, ◌∙◌, subst, Option, Some, None, arith}
 use Rattle.std.specs.Prelude.{◌&&◌, not, is_some}
 use Rattle.std.proofs.lemmas.Bool.{false≢true, true≢false, cond-false}
+use Rattle.std.proofs.lemmas.Option.{same_Some}
 use Rattle.atomic_table.specs.Seated.{TableId}
 use Rattle.entity_recs.specs.declared.effect.Effect.{Effect}
 use Rattle.entity_recs.specs.Commands.{Command}
@@ -124,12 +125,9 @@ no_words : (words : List ℕ) → not (no_word words) ≡ false → words ≡ []
 no_words [] e = refl
 no_words (word ∷ words) e = absurd (true≢false e)
 
-word_is : (a b : PlayerWord) → Some a ≡ Some b → a ≡ b
-word_is a b e = cc
-
 begin_word : (view : View) (given : Option Command) (w : PlayerWord) → player_word_next view (beginning given) ≡ Some w → w.before ≡ []
 begin_word view None w e = cc
-begin_word view (Some c) w e = ap (λ (v : PlayerWord). v.before) (sym (word_is _ w e))
+begin_word view (Some c) w e = ap (λ (v : PlayerWord). v.before) (sym (same_Some _ w e))
 
 give_word : {R : Type 0} (view : View) (o : Option ℕ) (w : PlayerWord) → player_word_next view (giving o) ≡ Some w → R
 give_word view None w e = cc
@@ -150,14 +148,14 @@ resolve_word F view (Some f) w e = by_nodes _ e
 whole_at : (F : Fixed) (view : View) (given : Option Command) (effect : Option Effect) (point : Point) → is_partial view point ≡ false → (w : PlayerWord)
     → player_word_next view (next_point F view given effect point) ≡ Some w → w.before ≡ []
 whole_at F view given effect Idle whole w e = begin_word view given w e
-whole_at F view given effect Owning whole w e = ap (λ (v : PlayerWord). v.before) (sym (word_is _ w e)) ∙ no_words view.own whole
+whole_at F view given effect Owning whole w e = ap (λ (v : PlayerWord). v.before) (sym (same_Some _ w e)) ∙ no_words view.own whole
 whole_at F view given effect (Taking got []) whole w e = cc
 whole_at F view given effect (Taking got (leaf ∷ rest)) whole w e = cc
-whole_at F view given effect Checking whole w e = ap (λ (v : PlayerWord). v.before) (sym (word_is _ w e)) ∙ no_words view.again whole
+whole_at F view given effect Checking whole w e = ap (λ (v : PlayerWord). v.before) (sym (same_Some _ w e)) ∙ no_words view.again whole
 whole_at F view given effect (Entering node plan) whole w e = cc
 whole_at F view given effect (Entered node plan) whole w e = cc
 whole_at F view given effect (Loading node part [] plan) whole w e = cc
-whole_at F view given effect (Loading node part (slot ∷ players) plan) whole w e = ap (λ (v : PlayerWord). v.before) (sym (word_is _ w e)) ∙ no_words part whole
+whole_at F view given effect (Loading node part (slot ∷ players) plan) whole w e = ap (λ (v : PlayerWord). v.before) (sym (same_Some _ w e)) ∙ no_words part whole
 whole_at F view given effect (Leaving node plan) whole w e = cc
 whole_at F view given effect (Sensing []) whole w e = cc
 whole_at F view given effect (Sensing (id ∷ ids)) whole w e = cc

@@ -234,7 +234,3 @@ module _ (F : Fixed) (passes : ℕ) (table : TableId) (start now : PassView) whe
       idle = idle_at now.view.point more.yields is.own.sound_sight.sound.next.left nothing;
     }
   ]
-
-pub not_some : (o : Option ℕ) → ((n : ℕ) → o ≡ Some n → ⊥) → o ≡ None
-not_some None no_one = refl
-not_some (Some n) no_one = absurd (no_one n refl)

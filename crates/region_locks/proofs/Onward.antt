@@ -2,6 +2,7 @@
 use Rattle.std.proofs.Common.{◌≡◌, ◌≢◌, ℕ, suc, ◌+◌, ◌<◌, ◌≤◌, Bool, true, false, if◌then◌else◌, List, [], ◌∷◌, ◌++◌, length, refl, sym, ap, ◌∙◌, subst, inl, inr, Option, Some, None, arith}
 use Rattle.std.specs.Prelude.{◌==◌, ◌&&◌, not, is_some, IsSomeAnd}
 use Rattle.std.proofs.lemmas.Bool.{cases_Bool, false≢true, ne_eqb, cond-true, cond-false}
+use Rattle.std.proofs.lemmas.Option.{same_Some}
 use Rattle.atomic_table.specs.Seated.{TableId}
 use Rattle.entity_recs.specs.declared.effect.Effect.{Effect}
 use Rattle.entity_recs.specs.declared.effect.Entry.{Entry}
@@ -21,12 +22,12 @@ use Rattle.ruled_words.specs.Passes.{PassView, first_effect, effect_kept, effect
 use Rattle.ruled_words.specs.Holders.{IsOtherHolder, IsReached}
 use Rattle.ruled_words.specs.Loads.{PlayerWord, player_word_next, after_loads, HasLoaded}
 use Rattle.ruled_words.specs.Sights.{Tally, begun_after, tally_taken, tally_after}
+use Rattle.ruled_words.proofs.Owns.{resolving_is}
 use Rattle.region_locks.specs.declared.turn.Turn.TheVariants.{LoadRec, Resolve}
 use Rattle.region_locks.specs.declared.went.Went.TheVariants.{On, Resolved, Committed}
 use Rattle.region_locks.specs.NextCalls.{is_commit_next}
 use Rattle.region_locks.specs.Turns.{turn_of}
 use Rattle.region_locks.specs.Pursuits.{command_pursued, commands_given, IsGoingOn, HasCommitted, WasRefused, effect_left, calls_left, HasGoneOn}
-use Rattle.region_locks.proofs.Turns.{resolving_is}
 use Rattle.region_locks.proofs.Pursuing.{is_partial, pursued_at, visiting_plain, loading_plain, pursued_reading}
 use Rattle.region_locks.proofs.Followed.{asked, none_refused, next_pursued, whole_between, none_given, unread, fewer_step, command_in_view}
 
@@ -242,9 +243,6 @@ module _ (F : Fixed) (passes : ℕ) (table : TableId) (p new : PassView) (own : 
 begins_word : {R : Type 0} (view : View) (w : PlayerWord) → player_word_next view (beginning None) ≡ Some w → R
 begins_word view w e = cc
 
-word_same : (x y : PlayerWord) → Some x ≡ Some y → x ≡ y
-word_same x y e = cc
-
 gives_word : {R : Type 0} (view : View) (o : Option ℕ) (w : PlayerWord) → player_word_next view (giving o) ≡ Some w → R
 gives_word view None w e = cc
 gives_word view (Some node) w e = cc
@@ -287,14 +285,14 @@ module _ (F : Fixed) (passes : ℕ) (table : TableId) (p new : PassView) (own : 
   loads_at : (point : Point) (w : PlayerWord) → p.view.point ≡ point → player_word_next p.view (next_point F p.view p.given p.effect point) ≡ Some w → w.before ≡ [] → HasGoneOn F passes table p new On
   loads_at Idle w at next empty = loads_idle p.given w refl at next
   loads_at Owning w at next empty =
-      let nothing : p.view.own ≡ [] = ap (λ (v : PlayerWord). v.before) (word_same _ w next) ∙ empty in
+      let nothing : p.view.own ≡ [] = ap (λ (v : PlayerWord). v.before) (same_Some _ w next) ∙ empty in
       known_as (owner F passes table p new own a b c d e f)
       (with_point None Owning (busy_none Owning at refl) at ∙ ap (λ (x : List ℕ). record p { given = None; quits = false; view = record p.view { point = Owning; own = x } }) nothing)
       (loads_own F passes table p new own a b c d e f)
   loads_at (Taking got []) w at next empty = cc
   loads_at (Taking got (leaf ∷ rest)) w at next empty = cc
   loads_at Checking w at next empty =
-      let nothing : p.view.again ≡ [] = ap (λ (v : PlayerWord). v.before) (word_same _ w next) ∙ empty in
+      let nothing : p.view.again ≡ [] = ap (λ (v : PlayerWord). v.before) (same_Some _ w next) ∙ empty in
       known_as (checker F passes table p new own a b c d e f)
       (with_point None Checking (busy_none Checking at refl) at ∙ ap (λ (x : List ℕ). record p { given = None; quits = false; view = record p.view { point = Checking; again = x } }) nothing)
       (loads_again F passes table p new own a b c d e f)
@@ -302,7 +300,7 @@ module _ (F : Fixed) (passes : ℕ) (table : TableId) (p new : PassView) (own : 
   loads_at (Entered node plan) w at next empty = cc
   loads_at (Loading node part [] plan) w at next empty = cc
   loads_at (Loading node part (slot ∷ players) plan) w at next empty =
-      let nothing : part ≡ [] = ap (λ (v : PlayerWord). v.before) (word_same _ w next) ∙ empty in
+      let nothing : part ≡ [] = ap (λ (v : PlayerWord). v.before) (same_Some _ w next) ∙ empty in
       let here : p.view.point ≡ Loading node [] (slot ∷ players) plan = at ∙ ap (λ (x : List ℕ). Loading node x (slot ∷ players) plan) nothing in
       known_as (reader F passes table p new own a b c d e f node slot players plan)
       (with_point None (Loading node [] (slot ∷ players) plan) (busy_none (Loading node [] (slot ∷ players) plan) here refl) here)
@@ -436,9 +434,6 @@ at_take view (Releasing nodes) x = absurd (false≢true x)
 at_take view (Returning leaves) x = absurd (false≢true x)
 at_take view (Yielding nodes leaves) x = absurd (false≢true x)
 
-node_is : {A : Type 0} (x y : A) → Some x ≡ Some y → x ≡ y
-node_is x y e = cc
-
 -- the view after a take of this node that is refused
 refused_view : (F : Fixed) (view : View) (o : Option Next) (node found : ℕ) → node_taken_next o ≡ Some node → found ≢ 0 → view_found F view (the_next o) found ≡ view_after_refusal node found view
 refused_view F view None node found x busy = cc
@@ -446,9 +441,9 @@ refused_view F view (Some (Begin cmd)) node found x busy = cc
 refused_view F view (Some LoadOwn) node found x busy = cc
 refused_view F view (Some LoadAgain) node found x busy = cc
 refused_view F view (Some (TakeNode n)) node found x busy =
-    cond-false (found == 0) _ _ (ne_eqb found 0 busy) ∙ ap (λ (m : ℕ). view_after_refusal m found view) (node_is n node x)
+    cond-false (found == 0) _ _ (ne_eqb found 0 busy) ∙ ap (λ (m : ℕ). view_after_refusal m found view) (same_Some n node x)
 refused_view F view (Some (ClaimNode g n)) node found x busy =
-    cond-false (found == 0) _ _ (ne_eqb found 0 busy) ∙ ap (λ (m : ℕ). view_after_refusal m found view) (node_is n node x)
+    cond-false (found == 0) _ _ (ne_eqb found 0 busy) ∙ ap (λ (m : ℕ). view_after_refusal m found view) (same_Some n node x)
 refused_view F view (Some (ReadList n plan)) node found x busy = cc
 refused_view F view (Some (ReadPlayer n part slot players plan)) node found x busy = cc
 refused_view F view (Some (ReadState id ids)) node found x busy = cc
@@ -502,7 +497,7 @@ module _ (F : Fixed) (passes : ℕ) (table : TableId) (p new : PassView) (going 
         fewer = fewer_step F passes table p going e.place new is busy (there (next_of_pass F p) commits) (ap (λ (n : Next). is_served n e.place) of.is) (λ _. hand);
         same = λ x. cc;
         committed = λ g x.
-            subst (HasCommitted p new) (node_is e g x) (record {
+            subst (HasCommitted p new) (same_Some e g x) (record {
               number = ap (λ (q : PassView). q.number) is;
               room = ap (λ (v : View). v.room) view;
               cmd = p.view.cmd;

@@ -17,6 +17,7 @@ use Rattle.core_seats.specs.Nexts.{next_point, the_next}
 use Rattle.core_seats.specs.Ready.{is_resolving, IsReady}
 use Rattle.core_seats.specs.Sound.{IsSound}
 use Rattle.ruled_words.specs.Passes.{PassView, next_of_pass, pass_after, node_taken_next, IsPassOf}
+use Rattle.ruled_words.proofs.Takes.{quit_taken, none_taken}
 use Rattle.region_locks.specs.Quitting.{has_next_step, next_step, HasQuit, MayBegin}
 
 -- ---- which passes have a next step
@@ -128,9 +129,6 @@ some_step F passes table p own = mapped (next_of_pass F p) ∙ has_next F passes
 
 -- ---- a take that was refused
 
-none_taken : {R : Type 0} (node : ℕ) → None ≡ Some node → R
-none_taken node e = cc
-
 given_taken : {R : Type 0} (o : Option ℕ) (node : ℕ) → node_taken_next (giving o) ≡ Some node → R
 given_taken None node e = cc
 given_taken (Some n) node e = cc
@@ -138,10 +136,6 @@ given_taken (Some n) node e = cc
 begun_taken : {R : Type 0} (given : Option Command) (node : ℕ) → node_taken_next (beginning given) ≡ Some node → R
 begun_taken None node e = cc
 begun_taken (Some c) node e = cc
-
-quit_taken : {R : Type 0} (o : Option ℕ) (node : ℕ) → node_taken (quitting o) ≡ Some node → R
-quit_taken None node e = cc
-quit_taken (Some n) node e = cc
 
 -- a take is a step at a take
 at_take : (F : Fixed) (view : View) (given : Option Command) (effect : Option Effect) (point : Point) (node : ℕ) → node_taken_next (next_point F view given effect point) ≡ Some node → is_taking point ≡ true

@@ -12,6 +12,7 @@ use Rattle.world_tree.specs.Live.{record_at, live_in, IsEntry}
 use Rattle.world_tree.specs.Worlds.{WorldView, record_of}
 use Rattle.core_steps.specs.Views.{Fixed, has}
 use Rattle.core_steps.specs.Stands.{IsStart}
+use Rattle.core_steps.proofs.Runs.{ids_of_records}
 use Rattle.core_seats.proofs.NearLists.{AreFound, found_at_ids}
 use Rattle.ruled_words.specs.Starts.{world_at_start}
 use Rattle.ruled_words.specs.Ends.{record_in}
@@ -35,13 +36,6 @@ map_same g h [] same = refl
 map_same g h (id ∷ ids) same =
     ap (λ (r : Rec). r ∷ map g ids) (same id (or_left _ _ (eq-eqb id id refl)))
     ∙ ap (λ (rs : List Rec). h id ∷ rs) (map_same g h ids (λ v live. same v (or_right _ _ live)))
-
--- records that have the ids at which they are
-ids_of_records : (g : ℕ → Rec) (ids : List ℕ) → ((v : ℕ) → has ids v ≡ true → (g v).id ≡ v) → map (λ (r : Rec). r.id) (map g ids) ≡ ids
-ids_of_records g [] own = refl
-ids_of_records g (id ∷ ids) own =
-    ap (λ (n : ℕ). n ∷ map (λ (r : Rec). r.id) (map g ids)) (own id (or_left _ _ (eq-eqb id id refl)))
-    ∙ ap (λ (ns : List ℕ). id ∷ ns) (ids_of_records g ids (λ v live. own v (or_right _ _ live)))
 
 -- records that are found at their ids
 found_mapped : (f : Rec → Rec) (g : ℕ → Rec) (rs : List Rec) → AreFound g rs → map (λ (id : ℕ). f (g id)) (map (λ (r : Rec). r.id) rs) ≡ map f rs

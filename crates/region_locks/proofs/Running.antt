@@ -6,9 +6,10 @@ use Rattle.atomic_table.specs.Seated.{TableId}
 use Rattle.entity_recs.specs.declared.effect.Entry.{Entry}
 use Rattle.entity_recs.specs.Commands.{Command}
 use Rattle.areanode.specs.Words.{has_bit}
-use Rattle.core_steps.specs.Views.{Fixed, Refused, Point, Idle, Owning, Taking, Checking, Entering, Entered, Loading, Leaving, Sensing, Resolving, Claiming, Storing, Releasing, Returning, Yielding, stage_of, is_busy, has, is_leaf, inner_nodes, inner_visited, region_in, inner_held, leaves_held, stores_owed}
+use Rattle.core_steps.specs.Views.{Fixed, Refused, Point, Idle, Resolving, stage_of, is_busy, has, is_leaf, inner_nodes, inner_visited, region_in, inner_held, leaves_held, stores_owed}
 use Rattle.core_steps.specs.declared.sizes.TheConstants.{NODE_HOLDERS, TABLE_LEAVES}
 use Rattle.core_steps.specs.Calls.{is_pursued, pursued_of}
+use Rattle.core_steps.proofs.Points.{idle_point, none_in_hand}
 use Rattle.ruled_words.specs.Sights.{HeldWord}
 use Rattle.ruled_words.specs.Passes.{PassView, IsPassOf}
 use Rattle.ruled_words.proofs.VisitedNodes.{inner_there}
@@ -143,33 +144,12 @@ in_hand_computed F passes table old new went c o is gone runs =
 
 -- ---- at the end
 
-idle_of : (point : Point) → is_busy (stage_of point) ≡ false → point ≡ Idle
-idle_of Idle e = refl
-idle_of Owning e = absurd (true≢false e)
-idle_of (Taking got rest) e = absurd (true≢false e)
-idle_of Checking e = absurd (true≢false e)
-idle_of (Entering node plan) e = absurd (true≢false e)
-idle_of (Entered node plan) e = absurd (true≢false e)
-idle_of (Loading node part players plan) e = absurd (true≢false e)
-idle_of (Leaving node plan) e = absurd (true≢false e)
-idle_of (Sensing ids) e = absurd (true≢false e)
-idle_of Resolving e = absurd (true≢false e)
-idle_of (Claiming got rest) e = absurd (true≢false e)
-idle_of (Storing nodes stores) e = absurd (true≢false e)
-idle_of (Releasing nodes) e = absurd (true≢false e)
-idle_of (Returning leaves) e = absurd (true≢false e)
-idle_of (Yielding nodes leaves) e = absurd (true≢false e)
-
-none_of : (o : Option Command) → is_some o ≡ false → o ≡ None
-none_of None e = refl
-none_of (Some c) e = absurd (true≢false e)
-
 -- a pass without a command in hand rests
 pub without_command : (p : PassView) → has_command_in_hand p ≡ false → HasNoCommand p
 without_command p rests =
     let parts = or_parts (is_some p.given) (is_busy (stage_of p.view.point)) rests in record {
-      given = none_of p.given parts.0;
-      idle = idle_of p.view.point parts.1;
+      given = none_in_hand p.given parts.0;
+      idle = idle_point p.view.point parts.1;
     }
 
 -- a call that isn't a refused take leaves the refused takes as they were

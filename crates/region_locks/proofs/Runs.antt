@@ -23,7 +23,7 @@ use Rattle.region_locks.specs.declared.moving.held.Held.{Held}
 use Rattle.region_locks.specs.Runs.{HoldsLeavesOf, HasReadAll, HasWritten, HasMoved, all_read, all_written}
 use Rattle.ruled_words.proofs.LeafWords.{leaf_word_is}
 use Rattle.ruled_words.proofs.LoadedWords.{visiting_same}
-use Rattle.ruled_words.proofs.TriedTakes.{more_again, more_still}
+use Rattle.ruled_words.proofs.TriedTakes.{more_again, more_still, tried_again}
 
 -- ---- an entry that is there
 
@@ -35,10 +35,6 @@ some_entry a b e = cc
 -- what refusals say of a view, they say of one with the same
 pub refusals_kept : (r : Refusals) (v w : View) → v.refusals ≡ w.refusals → v.refused ≡ w.refused → AreRefusals r v → AreRefusals r w
 refusals_kept r v w count last are = record { count = are.count ∙ count; last = are.last ∙ last }
-
--- takes after takes
-pub tried_twice : (a b c : Tally) → IsTriedOn a b → IsTriedOn b c → IsTriedOn a c
-tried_twice a b c first second = record { begun = second.begun ∙ first.begun; listed = more_again a.refused b.refused c.refused first.listed second.listed }
 
 -- ---- the leaves are taken
 
@@ -188,7 +184,7 @@ module _ (F : Fixed) (c : Command) (held : Held) (words : List ℕ) (q : Point) 
             let last : h4.view.refused ≡ h5.view.refused = sym (ap (λ (p : PassView). p.view.refused) at_end) in
             let tally : h4.tally ≡ h5.tally = sym (ap (λ (p : PassView). p.tally) at_end) in
             let same : h2.tally ≡ h1.tally = ap (λ (p : PassView). p.tally) again in
-            let later = tried_twice h2.tally h3.tally h4.tally read.tried writes.tried in
+            let later = tried_again h2.tally h3.tally h4.tally read.tried writes.tried in
             subst (λ (x : Entry). HasMoved c x h0 h5) (sym is) (record {
               hand = at_end ∙ (λ i. in_view_with h0 (record (without_command h0.view) {
                 seen = suc place;

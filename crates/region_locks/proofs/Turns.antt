@@ -133,23 +133,6 @@ resolving_busy (Releasing nodes) e = refl
 resolving_busy (Returning leaves) e = refl
 resolving_busy (Yielding nodes leaves) e = refl
 
-pub resolving_is : (point : Point) → is_resolving point ≡ true → point ≡ Resolving
-resolving_is Idle e = absurd (false≢true e)
-resolving_is Owning e = absurd (false≢true e)
-resolving_is (Taking got rest) e = absurd (false≢true e)
-resolving_is Checking e = absurd (false≢true e)
-resolving_is (Entering node plan) e = absurd (false≢true e)
-resolving_is (Entered node plan) e = absurd (false≢true e)
-resolving_is (Loading node part players plan) e = absurd (false≢true e)
-resolving_is (Leaving node plan) e = absurd (false≢true e)
-resolving_is (Sensing ids) e = absurd (false≢true e)
-resolving_is Resolving e = refl
-resolving_is (Claiming got rest) e = absurd (false≢true e)
-resolving_is (Storing nodes stores) e = absurd (false≢true e)
-resolving_is (Releasing nodes) e = absurd (false≢true e)
-resolving_is (Returning leaves) e = absurd (false≢true e)
-resolving_is (Yielding nodes leaves) e = absurd (false≢true e)
-
 -- the call of a pass that isn't to give up is that of its point
 pub turn_found : (F : Fixed) (p q : PassView) (t : Option Turn) → q ≡ p → p.quits ≡ false → t ≡ turn_for q.view (next_point F q.view q.given q.effect q.view.point) → t ≡ turn_of F p
 turn_found F p q t same pursues is =

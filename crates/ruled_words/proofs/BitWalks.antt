@@ -5,16 +5,9 @@ use Rattle.std.specs.List.{range_with_len}
 use Rattle.std.proofs.lemmas.Bool.{cases_lt, cases_eq, cond-true, cond-false, eq-eqb, ne_eqb, true≢false}
 use Rattle.std.proofs.lemmas.Nat.{div-add-mod'}
 use Rattle.std.proofs.lemmas.Nat.Bits.{bit_at-zero, bit_at_above, bit_at_cat_low}
+use Rattle.std.proofs.Math.Bool.{and-false, and-true}
 use Rattle.areanode.specs.Words.{has_bit}
 use Rattle.core_steps.specs.Views.{players_in}
-
-and_false : (b : Bool) → (b && false) ≡ false
-and_false true = refl
-and_false false = refl
-
-and_true : (b : Bool) → (b && true) ≡ b
-and_true true = refl
-and_true false = refl
 
 -- ---- the numbers whose bit is set
 
@@ -41,10 +34,10 @@ filter_first : (f h : ℕ → Bool) (bit len low : ℕ) → low ≤ bit → bit 
 filter_first f h bit zero low above below there first without = absurd (omega (arith, above, below))
 filter_first f h bit (suc len) low above below there first without = elim (cases_eq low bit) [
   | inl same ↦
-      let gone : h low ≡ false = without low (omega arith) ∙ ap (λ (b : Bool). f low && not b) (eq-eqb low bit same) ∙ and_false (f low) in
+      let gone : h low ≡ false = without low (omega arith) ∙ ap (λ (b : Bool). f low && not b) (eq-eqb low bit same) ∙ and-false (f low) in
       let rest : filter f (range_with_len (low + 1) len) ≡ filter h (range_with_len (low + 1) len) =
       filter_agree f h len (low + 1) (λ i over under.
-      sym (without i (omega (arith, under)) ∙ ap (λ (b : Bool). f i && not b) (ne_eqb i bit (λ e. omega (arith, e, same, over))) ∙ and_true (f i))) in
+      sym (without i (omega (arith, under)) ∙ ap (λ (b : Bool). f i && not b) (ne_eqb i bit (λ e. omega (arith, e, same, over))) ∙ and-true (f i))) in
       cond-true (f low) (low ∷ filter f (range_with_len (low + 1) len)) (filter f (range_with_len (low + 1) len)) (ap f same ∙ there)
       ∙ ap (λ (n : ℕ). n ∷ filter f (range_with_len (low + 1) len)) same
       ∙ ap (λ (xs : List ℕ). bit ∷ xs) (rest ∙ sym (cond-false (h low) (low ∷ filter h (range_with_len (low + 1) len)) (filter h (range_with_len (low + 1) len)) gone))

@@ -13,6 +13,7 @@ use Rattle.core_steps.specs.declared.step.StepKind.TheVariants.{Commit}
 use Rattle.core_steps.specs.Stands.{IsAt, IsClaimingAfter}
 use Rattle.core_steps.proofs.Lists.{has_append}
 use Rattle.core_steps.proofs.Takes.{two_inner}
+use Rattle.core_steps.proofs.Waiting.{first_there}
 use Rattle.core_seats.specs.Going.{view_found, word_left}
 use Rattle.core_seats.specs.Nexts.{the_next}
 use Rattle.core_seats.specs.declared.refusals.Refusals.{Refusals}
@@ -33,10 +34,6 @@ use Rattle.ruled_words.proofs.TriedTakes.{tried_on, tried_again, not_tried}
 held_to_write : (F : Fixed) (number node : ℕ) (wanted : List ℕ) → is_leaf F node ≡ false → held_word F number AtClaiming wanted node ≡ suc (number + NODE_HOLDERS)
 held_to_write F number node wanted inner =
     ap (λ (b : Bool). suc (number + NODE_HOLDERS * (if b then leaf_word F wanted else 1))) inner
-
-first_has : (nodes : List ℕ) (node : ℕ) → first nodes ≡ Some node → has nodes node ≡ true
-first_has [] node e = cc
-first_has (n ∷ nodes) node e = let same : n ≡ node = cc in or_left (n == node) (has nodes node) (eq-eqb n node same)
 
 -- ---- a take that is tried
 
@@ -187,7 +184,7 @@ module _ (F : Fixed) (p : PassView) (e : Effect) (node : ℕ) (plain : IsPlain p
   first_left found =
       left_next F (keeping p e) (ClaimNode e node) first_is found
       ∙ ap (λ (w : ℕ). if found == 0 then w else found)
-      (held_to_write F p.number node p.view.wanted (two_inner F (home F (record_read p.view.cmd.slot p.view.again)) (home F e.me) node (first_has (nodes_written F p.view e) node there)))
+      (held_to_write F p.number node p.view.wanted (two_inner F (home F (record_read p.view.cmd.slot p.view.again)) (home F e.me) node (first_there (nodes_written F p.view e) node there)))
 
   pub first_tried : (new : PassView) (found : ℕ) (b : Bool) → b ≡ (found == 0) → IsPlain new → still_keeping new e ≡ pass_after F (the_next (next_of_pass F (keeping p e))) found (keeping p e)
       → HasTried p (if b then view_after_claim F e node p.view else p.view) new

@@ -2,7 +2,7 @@
 use Rattle.std.specs.List.Sorted.{IsStrictlyIncreasing}
 use Rattle.std.specs.List.{AllByRecursion}
 use Rattle.std.proofs.lemmas.List.Elements.{recursion_from_All}
-use Rattle.std.proofs.Common.{◌≡◌, ℕ, zero, suc, ◌-◌, ◌<◌, ◌≤◌, true, false, List, [], ◌∷◌, ◌++◌, length, slice_index, refl, sym, ap, ◌∙◌, subst, inl, inr, arith}
+use Rattle.std.proofs.Common.{◌≡◌, ℕ, ◌-◌, ◌<◌, ◌≤◌, true, false, List, [], ◌∷◌, length, slice_index, refl, sym, ap, ◌∙◌, subst, inl, inr, arith}
 use Rattle.std.specs.Prelude.{◌==◌}
 use Rattle.std.specs.List.Sorted.{IsPermutation}
 use mathlib.Core.Option as maybe
@@ -17,20 +17,13 @@ use Rattle.core_steps.specs.Stands.{is_live_cell, value_in, owed_at, ended_log, 
 use Rattle.core_steps.proofs.Runs.{IsRunWorld}
 use Rattle.core_steps.proofs.Exclusion.{now_world}
 use Rattle.core_steps.proofs.Layouts.{layout_is_right}
+use Rattle.core_steps.proofs.Appending.{items_same_below}
 use Rattle.ruled_words.specs.Sights.{AreRefusalsServed, SightView}
 use Rattle.ruled_words.specs.Going.{IsAtRest}
 use Rattle.ruled_words.specs.Rule.{IsRuled}
 use Rattle.ruled_words.specs.Ends.{AreOthersEnded, AreEndedBelow, log_in, logs_in, Closes}
 use Rattle.ruled_words.proofs.Takings.{takes_at_end}
 use Rattle.ruled_words.proofs.Readings.{HasRecordWords, record_read_is, is_entry}
-
--- logs that agree below a number have the same items below it
-same_items : (n : ℕ) (one two : ℕ → List Item) → ((k : ℕ) → k < n → one k ≡ two k) → items_below n one ≡ items_below n two
-unfolding items_below
-same_items zero one two same = refl
-same_items (suc n) one two same =
-    ap (λ (xs : List Item). xs ++ one n) (same_items n one two (λ k below. same k (omega (arith, below))))
-    ∙ ap (λ (xs : List Item). items_below n two ++ xs) (same n (omega arith))
 
 -- the places of an ended log rise
 ended_rises : (count : ℕ) (ended : List Ended) → AllByRecursion (λ (e : Ended). IsLogWithin count e.room e.log) ended → (n : ℕ)
@@ -82,7 +75,7 @@ module _ (F : Fixed) (rooms : List ℕ) (s : State (Unit {0}) SightView) (r : Is
   items_same : items_of r.core.view ≡ logs_in sight.view
   items_same =
       ap (λ (n : ℕ). items_below n (log_of r.core.view)) (ap (λ (v : View). v.made) seen)
-      ∙ same_items sight.view.made (log_of r.core.view) (log_in sight.view) (λ k below. logs_same k)
+      ∙ items_same_below sight.view.made (log_of r.core.view) (log_in sight.view) (λ k below. logs_same k)
 
   word_is : (cell : Cell) → is_live_cell F cell ≡ true → word_in r.core.words cell ≡ value_in r.now cell
   word_is cell live = r.stands.core.unowed cell live (λ i. ap (λ (p : Point). owed_at (stores_owed p) cell) (idle i))

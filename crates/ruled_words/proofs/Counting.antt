@@ -1,5 +1,5 @@
 -- The count of commits is small: each log fits its room, and there are at most sixteen.
-use Rattle.std.proofs.Common.{◌≡◌, ap, ℕ, zero, suc, ◌*◌, ◌^◌, ◌<◌, ◌≤◌, List, [], ◌∷◌, length, inl, inr, arith, slice_index, length-append}
+use Rattle.std.proofs.Common.{◌≡◌, ap, ℕ, ◌^◌, ◌<◌, ◌≤◌, List, [], ◌∷◌, length, inl, inr, arith, slice_index}
 use Rattle.std.specs.Prelude.{◌==◌}
 use Rattle.std.specs.List.{AllByRecursion}
 use Rattle.std.proofs.lemmas.Bool.{cases_Bool}
@@ -8,9 +8,9 @@ use Rattle.std.proofs.lemmas.List.Sorted.{length_permutation}
 use mathlib.Core.Option as maybe
 use lib.ListN.{get_elem?}
 use Rattle.atomic_table.specs.Table.{State}
-use Rattle.entity_recs.specs.Histories.{Item}
 use Rattle.core_steps.specs.Views.{Fixed, Ended, View}
-use Rattle.core_steps.specs.Stands.{IsLogWithin, ended_log, log_of, items_below, items_of}
+use Rattle.core_steps.specs.Stands.{IsLogWithin, ended_log, log_of, items_of}
+use Rattle.core_steps.proofs.Appending.{below_small}
 use Rattle.ruled_words.specs.Sights.{SightView}
 use Rattle.ruled_words.specs.Rule.{IsRuled}
 
@@ -22,14 +22,6 @@ ended_small count (e ∷ ended) within small n =
       | inl here ↦ rw here (let fits = within.0.fits in let room = small.0 in omega (arith, fits, room))
       | inr there ↦ rw there (ended_small count ended within.1 small.1 n)
     ]
-
-below_small : (n : ℕ) (logs : ℕ → List Item) → ((k : ℕ) → length (logs k) < 2 ^ 32) → length (items_below n logs) ≤ n * 2 ^ 32
-unfolding items_below
-below_small zero logs small = omega arith
-below_small (suc n) logs small =
-    let rest = below_small n logs small in
-    let one = small n in
-    rw (length-append (items_below n logs) (logs n)) (omega (arith, rest, one))
 
 -- the count of commits can't wrap
 pub count_is_small : (F : Fixed) (rooms : List ℕ) (s : State (Unit {0}) SightView) (r : IsRuled F rooms s) → slice_index s.words 0 < 2 ^ 40

@@ -1,5 +1,6 @@
 -- A pass gives back its next node, or loads its next list word or state.
 use Rattle.std.proofs.Common.{◌≡◌, ℕ, ◌+◌, Bool, true, false, if◌then◌else◌, List, [], ◌∷◌, refl, ap, Option, Some, None, is_some}
+use Rattle.std.proofs.lemmas.Option.{same_Some}
 use Rattle.core_steps.specs.declared.sizes.TheConstants.{FIRST_LIST_WORD, FIRST_STATE_WORD}
 use Rattle.atomic_table.specs.Seated.{TableId}
 use Rattle.entity_recs.specs.declared.effect.Effect.{Effect}
@@ -26,9 +27,6 @@ pub record ReadsList (F : Fixed) (p : PassView) (node : ℕ) (next : Next) : Typ
 pub record ReadsState (F : Fixed) (p : PassView) (id : ℕ) (next : Next) : Type 0 where
   pub index : index_of p.view next ≡ FIRST_STATE_WORD + id
   pub left : (found : ℕ) → word_left F p.number p.view next found ≡ found
-
-same_number : (a b : ℕ) → Some a ≡ Some b → a ≡ b
-same_number a b e = cc
 
 none_is : {R : Type 0} (n : ℕ) → None ≡ Some n → R
 none_is n e = cc
@@ -102,7 +100,7 @@ module _ (F : Fixed) (passes : ℕ) (table : TableId) (p : PassView) (n : ℕ) (
 
   gives_one : (o : Option ℕ) → node_given_next (giving o) ≡ Some n → Gives F p n (the_next (giving o))
   gives_one None e = none_is n e
-  gives_one (Some m) e = record { index = ap (λ (k : ℕ). 1 + k) (same_number m n e); left = λ found. refl; blind = λ found. refl }
+  gives_one (Some m) e = record { index = ap (λ (k : ℕ). 1 + k) (same_Some m n e); left = λ found. refl; blind = λ found. refl }
 
   gives_at : (point : Point) → p.view.point ≡ point → node_given_next (next_point F p.view p.given p.effect point) ≡ Some n → Gives F p n (the_next (next_point F p.view p.given p.effect point))
   gives_at Idle at e = given_begin n p.given e
@@ -128,7 +126,7 @@ module _ (F : Fixed) (passes : ℕ) (table : TableId) (p : PassView) (n : ℕ) (
 
   yields : (o : Option ℕ) → node_given (quitting o) ≡ Some n → Gives F p n (quitting o)
   yields None e = none_is n e
-  yields (Some m) e = record { index = ap (λ (k : ℕ). 1 + k) (same_number m n e); left = λ found. refl; blind = λ found. refl }
+  yields (Some m) e = record { index = ap (λ (k : ℕ). 1 + k) (same_Some m n e); left = λ found. refl; blind = λ found. refl }
 
   pub gives_next : node_given_next (next_of_pass F p) ≡ Some n → Gives F p n (the_next (next_of_pass F p))
   gives_next given = by_quits p.quits given
@@ -148,7 +146,7 @@ module _ (F : Fixed) (passes : ℕ) (table : TableId) (p : PassView) (n : ℕ) (
   lists_at Checking at e = none_is n e
   lists_at (Entering node plan) at e = none_is n e
   lists_at (Entered node plan) at e = record {
-    index = ap (λ (k : ℕ). FIRST_LIST_WORD + k) (same_number node n e);
+    index = ap (λ (k : ℕ). FIRST_LIST_WORD + k) (same_Some node n e);
     left = λ found. refl;
   }
   lists_at (Loading node part [] plan) at e = none_is n e
@@ -188,7 +186,7 @@ module _ (F : Fixed) (passes : ℕ) (table : TableId) (p : PassView) (n : ℕ) (
   states_at (Leaving node plan) at e = none_is n e
   states_at (Sensing []) at e = none_is n e
   states_at (Sensing (id ∷ ids)) at e = record {
-    index = ap (λ (k : ℕ). FIRST_STATE_WORD + k) (same_number id n e);
+    index = ap (λ (k : ℕ). FIRST_STATE_WORD + k) (same_Some id n e);
     left = λ found. refl;
   }
   states_at Resolving at e = state_resolved n F p.view p.effect e

@@ -20,11 +20,12 @@ use Rattle.core_steps.proofs.NextSteps.{next_step_stands}
 use Rattle.core_steps.proofs.TableWords.{steps_have_their_word}
 use Rattle.core_steps.proofs.TreeNodes.{each_tree_fits}
 use Rattle.core_steps.proofs.OneWord.{steps_change_one_word}
+use Rattle.core_steps.proofs.Kept.{other_view}
 use Rattle.ruled_words.specs.Sights.{SightView, sight_found}
 use Rattle.ruled_words.specs.Going.{next_asked, MayGo}
 use Rattle.core_seats.specs.Going.{view_found, word_left}
 use Rattle.ruled_words.specs.Rule.{at_rest, HasWords, HasSeats, ServesItsSlots, HasRooms, IsRuled}
-use Rattle.core_seats.proofs.Changing.{view_here, view_there, word_here}
+use Rattle.core_seats.proofs.Changing.{view_here, word_here}
 use Rattle.ruled_words.proofs.Takings.{takes_step}
 use Rattle.ruled_words.proofs.Views.{command_next, keeps_found, asked_is}
 
@@ -158,7 +159,7 @@ module _ (F : Fixed) (rooms : List ℕ) (s : State (Unit {0}) SightView) (r : Is
     seats_after = record {
       view = λ k other e. elim (at_set s.views i k new other e) [
         | inl is ↦ subst (λ (n : ℕ). after.view n ≡ other.view) (sym is.0) (new_is ∙ ap (λ (x : SightView). x.view) is.1)
-        | inr is ↦ view_there F r.core i k next (ne_eqb k i is.0) ∙ r.seats.view k other is.1
+        | inr is ↦ other_view F r.core i k next (ne_eqb k i is.0) ∙ r.seats.view k other is.1
       ];
       number = λ k other e live. elim (at_set s.views i k new other e) [
         | inl is ↦ sym (ap (λ (x : SightView). x.number) is.1) ∙ here ∙ sym is.0
@@ -170,13 +171,13 @@ module _ (F : Fixed) (rooms : List ℕ) (s : State (Unit {0}) SightView) (r : Is
         kept : {B : Type 0} (g : View → B) → g (view_found F V next (word_of_next r.core.words V next)) ≡ g V → (k : ℕ) → g (after.view k) ≡ g (r.core.view k)
         kept g same k = elim (cases_Bool (k == i)) [
           | inl e ↦ subst (λ (n : ℕ). g (after.view n) ≡ g (r.core.view n)) (sym (eqb-true k i e)) (ap g (view_here F r.core i next) ∙ same)
-          | inr e ↦ ap g (view_there F r.core i k next e)
+          | inr e ↦ ap g (other_view F r.core i k next e)
         ]
 
     kept_views : {B : Type 0} (g : View → B) → g (view_found F V next (word_of_next r.core.words V next)) ≡ g V → (k : ℕ) → g (after.view k) ≡ g (r.core.view k)
     kept_views g same k = elim (cases_Bool (k == i)) [
       | inl e ↦ subst (λ (n : ℕ). g (after.view n) ≡ g (r.core.view n)) (sym (eqb-true k i e)) (ap g (view_here F r.core i next) ∙ same)
-      | inr e ↦ ap g (view_there F r.core i k next e)
+      | inr e ↦ ap g (other_view F r.core i k next e)
     ]
 
     serves_after : ServesItsSlots (length rooms) after
@@ -189,7 +190,7 @@ module _ (F : Fixed) (rooms : List ℕ) (s : State (Unit {0}) SightView) (r : Is
           asked_is V (λ c. c.slot % length rooms ≡ i) F given quits next may_here.comes may_here.at_take may_here.serves (λ b. r.serves i b) in
           subst (λ (n : ℕ). (after.view n).cmd.slot % length rooms ≡ n) (sym (eqb-true k i e)) (ap (λ (c : Command). c.slot % length rooms) cmd ∙ own)
       | inr e ↦
-          let same = view_there F r.core i k next e in
+          let same = other_view F r.core i k next e in
           ap (λ (v : View). v.cmd.slot % length rooms) same ∙ r.serves k (subst (λ (v : View). is_busy (stage_of v.point) ≡ true) same busy)
     ]
 

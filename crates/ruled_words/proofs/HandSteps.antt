@@ -1,6 +1,7 @@
 -- A step of a pass that is held without the same seat in plain values.
 use Rattle.std.proofs.Common.{◌≡◌, ℕ, suc, ◌+◌, ◌%◌, arith, Bool, true, false, if◌then◌else◌, sym, ap, ◌∙◌, refl, subst, inl, inr, Option, Some, None, is_some}
 use Rattle.std.proofs.lemmas.Bool.{cases_Bool, false≢true}
+use Rattle.std.proofs.lemmas.Option.{same_Some}
 use Rattle.atomic_table.specs.Seated.{TableId}
 use Rattle.entity_recs.specs.declared.effect.Effect.{Effect}
 use Rattle.entity_recs.specs.Commands.{Command}
@@ -45,13 +46,10 @@ module _ (F : Fixed) (passes : ℕ) (table : TableId) (p hand : PassView) (found
   pub plain_own : p.effect ≡ None → IsPassOf F passes table hand
   plain_own none = subst (IsPassOf F passes table) (sym (plain_after none)) (own_after F passes table p found own comes gone.sound_sight)
 
-no_more : (n : ℕ) → n ≡ n + 0
+pub no_more : (n : ℕ) → n ≡ n + 0
 no_more n = omega arith
 
 -- ---- a command is begun
-
-same_command : (a b : Command) → Some a ≡ Some b → a ≡ b
-same_command a b e = cc
 
 module _ (F : Fixed) (passes : ℕ) (table : TableId) (p : PassView) (c : Command) (own : IsPassOf F passes table p) (idle : p.view.point ≡ Idle) (pending : IsPending F p.view c)
     (serves : c.slot % passes ≡ p.number) where
@@ -61,8 +59,8 @@ module _ (F : Fixed) (passes : ℕ) (table : TableId) (p : PassView) (c : Comman
     at_setting = own.at_setting;
     lives = own.lives;
     sound_sight = own.sound_sight;
-    pending = λ d e. subst (IsPending F p.view) (same_command c d e) pending;
-    serves = λ d e. subst (λ (x : Command). x.slot % passes ≡ p.number) (same_command c d e) serves;
+    pending = λ d e. subst (IsPending F p.view) (same_Some c d e) pending;
+    serves = λ d e. subst (λ (x : Command). x.slot % passes ≡ p.number) (same_Some c d e) serves;
     may_quit = own.may_quit;
     has_effect = own.has_effect;
     only_resolving = own.only_resolving;

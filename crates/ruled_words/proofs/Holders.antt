@@ -16,12 +16,13 @@ use Rattle.areanode.specs.Depths.{sizes_of_depth}
 use Rattle.areanode.specs.Trees.{IsTreeDepth, leaves_of}
 use Rattle.core_steps.specs.Cells.{Words}
 use Rattle.core_steps.specs.Views.{Fixed, Point, Idle, Owning, Taking, Checking, Entering, Entered, Loading, Leaving, Sensing, Resolving, Claiming, Storing, Releasing, Returning, Yielding, View, stage_of, is_busy, is_whole, is_writing, has, is_leaf, inner_nodes, leaf_nodes, leaf_word, region_in, holds, inner_held, leaves_held, record_read, write_nodes, effect_loaded}
-use Rattle.core_steps.specs.Steps.{first, first_yield, next_give, next_node_at}
+use Rattle.core_steps.specs.Steps.{first_yield, next_give, next_node_at}
 use Rattle.core_steps.specs.Stands.{IsAt}
-use Rattle.core_steps.specs.Machine.{Next, Begin, LoadOwn, LoadAgain, TakeNode, ClaimNode, ReadList, ReadPlayer, ReadState, CommitMove, StoreWord, GiveNode, YieldNode, YieldCount, giving, quitting, beginning, resolving, committing, next_at, index_of, word_of_next, SomeIsLeft}
+use Rattle.core_steps.specs.Machine.{Next, Begin, LoadOwn, LoadAgain, TakeNode, ClaimNode, ReadList, ReadPlayer, ReadState, CommitMove, StoreWord, GiveNode, YieldNode, YieldCount, giving, quitting, beginning, committing, next_at, index_of, word_of_next, SomeIsLeft}
 use Rattle.core_steps.specs.Calls.{node_taken}
 use Rattle.core_steps.proofs.Lists.{has_front, has_filter, has_shifted}
 use Rattle.core_steps.proofs.Waiting.{holder_below, holder_is_below, comes_next}
+use Rattle.core_steps.proofs.Nexts.{taken_resolved}
 use Rattle.ruled_words.specs.Sights.{SightView}
 use Rattle.ruled_words.specs.Going.{next_asked, MayGo}
 use Rattle.ruled_words.specs.Rule.{IsRuled}
@@ -47,10 +48,6 @@ taken_committed (Some effect) nodes node e = cc
 taken_quitting : {R : Type 0} (yields : Option ℕ) (node : ℕ) → node_taken (quitting yields) ≡ Some node → R
 taken_quitting None node e = cc
 taken_quitting (Some n) node e = cc
-
-taken_resolved : (effect : Effect) (nodes : List ℕ) (node : ℕ) → node_taken (resolving effect nodes) ≡ Some node → first nodes ≡ Some node
-taken_resolved effect [] node taken = taken
-taken_resolved effect (n ∷ nodes) node taken = taken
 
 taken_at : (F : Fixed) (view : View) (given : Option Command) (point : Point) (node : ℕ) → node_taken_next (next_at F view given point) ≡ Some node → next_node_at F view point ≡ Some node
 taken_at F view given Idle node taken = taken_begun given node taken

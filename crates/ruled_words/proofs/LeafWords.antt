@@ -10,20 +10,11 @@ use Rattle.areanode.specs.Trees.{IsTreeDepth, leaf_node, leaves_of, region_has_l
 use Rattle.areanode.specs.Depths.{sizes_of_depth}
 use Rattle.areanode.proofs.Words.{word_has_its_bits, word_of-below}
 use Rattle.core_steps.specs.Views.{Fixed, inner_nodes, leaf_nodes, leaf_word, bits_of_leaves}
-
-range_last : (low n : ℕ) → range_with_len low (suc n) ≡ range_with_len low n ++ (low + n) ∷ []
-range_last low zero = ap (λ (k : ℕ). k ∷ []) (omega arith)
-range_last low (suc n) =
-    let rest = range_last (low + 1) n in
-    let same : low + 1 + n ≡ low + suc n = omega arith in
-    ap (λ (xs : List ℕ). low ∷ xs) (rest ∙ ap (λ (k : ℕ). range_with_len (low + 1) n ++ k ∷ []) same)
+use Rattle.core_seats.proofs.ReadLists.{bits_more}
+use Rattle.world_tree.proofs.Rounds.{range-more}
 
 range_end : (n : ℕ) → range_with_len 0 (suc n) ≡ range_with_len 0 n ++ n ∷ []
-range_end n = let same : 0 + n ≡ n = omega arith in range_last 0 n ∙ ap (λ (k : ℕ). range_with_len 0 n ++ k ∷ []) same
-
-bits-append : (xs ys : List ℕ) → bits_of_leaves (xs ++ ys) ≡ bits_of_leaves xs + bits_of_leaves ys
-bits-append [] ys = omega arith
-bits-append (x ∷ xs) ys = let rest = bits-append xs ys in omega (arith, rest)
+range_end n = let same : 0 + n ≡ n = omega arith in range-more 0 n ∙ ap (λ (k : ℕ). range_with_len 0 n ++ k ∷ []) same
 
 one_bit : (test : ℕ → Bool) (n : ℕ) → bits_of_leaves (filter test (n ∷ [])) ≡ (if test n then 2 ^ n else 0)
 one_bit test n = elim (cases_Bool (test n)) [ inl e ↦ rw e (omega arith) | inr e ↦ rw e refl ]
@@ -36,7 +27,7 @@ bits_of_test (suc n) test =
     let rest = bits_of_test n test in
     let one = one_bit test n in
     let all = ap (λ (xs : List ℕ). bits_of_leaves (filter test xs)) (range_end n) ∙ ap bits_of_leaves (filter-append test (range_with_len 0 n) (n ∷ []))
-    ∙ bits-append (filter test (range_with_len 0 n)) (filter test (n ∷ [])) in
+    ∙ bits_more (filter test (range_with_len 0 n)) (filter test (n ∷ [])) in
     omega (arith, rest, one, all)
 
 -- a filter by tests that agree on the list

@@ -1,7 +1,8 @@
 -- A pass loads a player's record.
-use Rattle.std.proofs.Common.{◌≡◌, ℕ, ◌+◌, ◌<◌, Bool, true, false, List, [], ◌∷◌, ◌++◌, length, refl, sym, ap, ◌∙◌, subst, Option, Some, None, is_some, arith, length-append}
+use Rattle.std.proofs.Common.{◌≡◌, ℕ, ◌<◌, Bool, true, false, List, [], ◌∷◌, ◌++◌, length, refl, sym, ap, ◌∙◌, subst, Option, Some, None, is_some, arith}
 use Rattle.std.specs.Prelude.{◌==◌}
 use Rattle.std.proofs.lemmas.Bool.{false≢true, eqb-true, eq-eqb, cond-true, cond-false}
+use Rattle.std.proofs.lemmas.Option.{same_Some}
 use Rattle.atomic_table.specs.Seated.{TableId}
 use Rattle.entity_recs.specs.declared.effect.Effect.{Effect}
 use Rattle.entity_recs.specs.declared.rec.Rec.{Rec}
@@ -10,6 +11,7 @@ use Rattle.core_steps.specs.Views.{Fixed, Point, Owning, Taking, Checking, Loadi
 use Rattle.core_steps.specs.Steps.{visiting}
 use Rattle.core_steps.specs.Machine.{Next, Begin, LoadOwn, LoadAgain, TakeNode, ClaimNode, ReadList, ReadPlayer, ReadState, CommitMove, StoreWord, GiveNode, YieldNode, YieldCount, index_of}
 use Rattle.core_steps.proofs.Points.{visiting_between}
+use Rattle.core_steps.proofs.Owned.{longer}
 use Rattle.core_seats.specs.Going.{view_found, word_left}
 use Rattle.core_seats.specs.Nexts.{next_point, the_next}
 use Rattle.core_seats.specs.Sound.{IsSound}
@@ -26,9 +28,6 @@ word_there : (view : View) (o : Option Next) (w : PlayerWord) → player_word_ne
 word_there view None w e = cc
 word_there view (Some next) w e = e
 
-same_word : (a b : PlayerWord) → Some a ≡ Some b → a ≡ b
-same_word a b e = cc
-
 none_word : {R : Type 0} (w : PlayerWord) → None ≡ Some w → R
 none_word w e = cc
 
@@ -38,14 +37,14 @@ pub record IsLoad (F : Fixed) (number : ℕ) (view : View) (w : PlayerWord) (nex
   pub left : (found : ℕ) → word_left F number view next found ≡ found
 
 is_load : (F : Fixed) (number : ℕ) (view : View) (w : PlayerWord) (next : Next) → player_word view next ≡ Some w → IsLoad F number view w next
-is_load F number view w (Begin c) e = record { index = ap (λ (v : PlayerWord). cell_index (cell_of v.slot (length v.before))) (same_word _ w e); left = λ found. refl }
-is_load F number view w LoadOwn e = record { index = ap (λ (v : PlayerWord). cell_index (cell_of v.slot (length v.before))) (same_word _ w e); left = λ found. refl }
-is_load F number view w LoadAgain e = record { index = ap (λ (v : PlayerWord). cell_index (cell_of v.slot (length v.before))) (same_word _ w e); left = λ found. refl }
+is_load F number view w (Begin c) e = record { index = ap (λ (v : PlayerWord). cell_index (cell_of v.slot (length v.before))) (same_Some _ w e); left = λ found. refl }
+is_load F number view w LoadOwn e = record { index = ap (λ (v : PlayerWord). cell_index (cell_of v.slot (length v.before))) (same_Some _ w e); left = λ found. refl }
+is_load F number view w LoadAgain e = record { index = ap (λ (v : PlayerWord). cell_index (cell_of v.slot (length v.before))) (same_Some _ w e); left = λ found. refl }
 is_load F number view w (TakeNode node) e = none_word w e
 is_load F number view w (ClaimNode f node) e = none_word w e
 is_load F number view w (ReadList node plan) e = none_word w e
 is_load F number view w (ReadPlayer node part slot players plan) e =
-    record { index = ap (λ (v : PlayerWord). cell_index (cell_of v.slot (length v.before))) (same_word _ w e); left = λ found. refl }
+    record { index = ap (λ (v : PlayerWord). cell_index (cell_of v.slot (length v.before))) (same_Some _ w e); left = λ found. refl }
 is_load F number view w (ReadState id ids) e = none_word w e
 is_load F number view w (CommitMove f nodes) e = none_word w e
 is_load F number view w (StoreWord nodes store stores) e = none_word w e
@@ -64,9 +63,6 @@ loads_more F p (x ∷ words) word = loads_more F (pass_after F (the_next (next_o
 record LoadsOn (F : Fixed) (slot : ℕ) (words : List ℕ) (view : View) : Type 0 where
   next : (effect : Option Effect) → length words < 6 → player_word_next view (next_point F view None effect view.point) ≡ Some (record { slot = slot; before = words })
   taken : length words ≡ 6 → IsSound F view → F.takes (record_read slot words) ≡ true
-
-pub one_more : (words : List ℕ) (word : ℕ) → length (words ++ word ∷ []) ≡ length words + 1
-one_more words word = length-append words (word ∷ [])
 
 module _ (F : Fixed) (view : View) (word : ℕ) where
   owned_on : (b : Bool) → length (view.own ++ word ∷ []) == 6 ≡ b → view.point ≡ Owning → LoadsOn F view.cmd.slot (view.own ++ word ∷ []) (view_found F view LoadOwn word)
@@ -121,23 +117,23 @@ module _ (F : Fixed) (view : View) (word : ℕ) where
       → ((node slot : ℕ) (part players plan : List ℕ) → next ≡ ReadPlayer node part slot players plan → length part ≡ 5 → F.takes (record_read slot (part ++ word ∷ [])) ≡ true)
       → LoadsOn F w.slot (w.before ++ word ∷ []) (view_found F view next word)
   loads_on (Begin c) w e owning checking takes =
-      subst (λ (v : PlayerWord). LoadsOn F v.slot (v.before ++ word ∷ []) (view_found F view (Begin c) word)) (same_word _ w e) (record {
+      subst (λ (v : PlayerWord). LoadsOn F v.slot (v.before ++ word ∷ []) (view_found F view (Begin c) word)) (same_Some _ w e) (record {
         next = λ effect below. refl;
         taken = λ six sound. absurd (omega (arith, six));
       })
   loads_on LoadOwn w e owning checking takes =
-      subst (λ (v : PlayerWord). LoadsOn F v.slot (v.before ++ word ∷ []) (view_found F view LoadOwn word)) (same_word _ w e)
+      subst (λ (v : PlayerWord). LoadsOn F v.slot (v.before ++ word ∷ []) (view_found F view LoadOwn word)) (same_Some _ w e)
       (owned_on (length (view.own ++ word ∷ []) == 6) refl (owning refl))
   loads_on LoadAgain w e owning checking takes =
-      subst (λ (v : PlayerWord). LoadsOn F v.slot (v.before ++ word ∷ []) (view_found F view LoadAgain word)) (same_word _ w e)
+      subst (λ (v : PlayerWord). LoadsOn F v.slot (v.before ++ word ∷ []) (view_found F view LoadAgain word)) (same_Some _ w e)
       (again_on (length (view.again ++ word ∷ []) == 6) refl (checking refl))
   loads_on (TakeNode node) w e owning checking takes = none_word w e
   loads_on (ClaimNode f node) w e owning checking takes = none_word w e
   loads_on (ReadList node plan) w e owning checking takes = none_word w e
   loads_on (ReadPlayer node part slot players plan) w e owning checking takes =
-      subst (λ (v : PlayerWord). LoadsOn F v.slot (v.before ++ word ∷ []) (view_found F view (ReadPlayer node part slot players plan) word)) (same_word _ w e)
+      subst (λ (v : PlayerWord). LoadsOn F v.slot (v.before ++ word ∷ []) (view_found F view (ReadPlayer node part slot players plan) word)) (same_Some _ w e)
       (other_on node slot part players plan (length (part ++ word ∷ []) == 6) refl
-      (λ six. takes node slot part players plan refl (let more = one_more part word in omega (arith, six, more))))
+      (λ six. takes node slot part players plan refl (let more = longer part word in omega (arith, six, more))))
   loads_on (ReadState id ids) w e owning checking takes = none_word w e
   loads_on (CommitMove f nodes) w e owning checking takes = none_word w e
   loads_on (StoreWord nodes store stores) w e owning checking takes = none_word w e

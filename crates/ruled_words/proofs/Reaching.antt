@@ -1,10 +1,10 @@
 -- The node that a seat takes next is one of the leaves that it wants, or an inner node that they visit.
-use Rattle.std.proofs.Common.{◌≡◌, ℕ, ◌-◌, ◌<◌, Bool, true, false, List, [], ◌∷◌, ◌++◌, length, refl, sym, ap, ◌∙◌, subst, inl, inr, Option, Some, arith}
+use Rattle.std.proofs.Common.{◌≡◌, ℕ, ◌<◌, Bool, true, false, List, ◌++◌, length, refl, sym, ap, ◌∙◌, subst, inl, inr, Option, Some, arith}
 use Rattle.std.specs.Prelude.{◌||◌, ◌==◌, nat_le, All}
 use Rattle.std.specs.List.{range_with_len}
 use mathlib.Core.Option as maybe
 use lib.ListN.{get_elem?}
-use Rattle.std.proofs.lemmas.Bool.{cases_Bool, true≢false, or_cases, or_left, or_right, eq-eqb, eqb-true, leb-true, leb-false}
+use Rattle.std.proofs.lemmas.Bool.{cases_Bool, true≢false, or_cases, or_right, eqb-true, leb-true, leb-false}
 use Rattle.arena_geo.specs.Bounds.{Bounds, IsOrdered}
 use Rattle.arena_geo.specs.Regions.{touches_region}
 use Rattle.atomic_table.specs.Table.{State}
@@ -19,13 +19,14 @@ use Rattle.areanode.specs.Words.{has_bit}
 use Rattle.areanode.specs.Trees.{leaves_of, visited_of}
 use Rattle.areanode.proofs.Nodes.{touched_node_is_visited}
 use Rattle.core_steps.specs.Views.{Fixed, Point, Idle, Owning, Taking, Checking, Entering, Entered, Loading, Leaving, Sensing, Resolving, Claiming, Storing, Releasing, Returning, Yielding, View, stage_of, is_settled, is_read_again, is_whole, has, is_leaf, inner_nodes, leaf_nodes, inner_visited, plan_of, home, region_in, record_read, write_nodes, effect_loaded}
-use Rattle.core_steps.specs.Steps.{first, next_node_at}
+use Rattle.core_steps.specs.Steps.{next_node_at}
 use Rattle.core_steps.specs.Stands.{IsAt}
 use Rattle.core_steps.specs.Machine.{Next}
 use Rattle.core_steps.proofs.Lists.{has_append, has_filter, filter_has, range_has, has_range}
 use Rattle.core_steps.proofs.Exclusion.{now_world, settled_seat, inside_touches}
 use Rattle.core_steps.proofs.Runs.{is_call, live_ordered}
 use Rattle.core_steps.proofs.Resolved.{again_is, loaded_is_outcome}
+use Rattle.core_steps.proofs.Waiting.{first_there}
 use Rattle.ruled_words.specs.Sights.{SightView}
 use Rattle.ruled_words.specs.Going.{MayGo}
 use Rattle.ruled_words.specs.Rule.{IsRuled}
@@ -41,13 +42,6 @@ inner_home F r region ordered box touches inner =
     let below = leb-false (inner_nodes F) h inner in
     filter_has (has_bit (visited_of F.tree.depth (leaves_of F.tree region))) (range_with_len 0 (inner_nodes F)) h
     (range_has 0 (inner_nodes F) h (omega arith) (omega arith)) (touched_node_is_visited F.tree (abs_of r) region box ordered touches)
-
-is_first : (nodes : List ℕ) (node : ℕ) → first nodes ≡ Some node → has nodes node ≡ true
-is_first [] node e = cc
-is_first (n ∷ nodes) node e = or_left (n == node) (has nodes node) (eq-eqb n node (same n node e))
-  where
-    same : (n node : ℕ) → Some n ≡ Some node → n ≡ node
-    same n node e = cc
 
 has_later : (got rest : List ℕ) (node : ℕ) → has rest node ≡ true → has (got ++ rest) node ≡ true
 has_later got rest node there = has_append got rest node ∙ or_right (has got node) (has rest node) there
@@ -124,7 +118,7 @@ module _ (F : Fixed) (rooms : List ℕ) (s : State (Unit {0}) SightView) (r : Is
       let seat = r.stands.core.seats i in
       let at : IsAt F seat_view.cmd seat_view.own seat_view.wanted seat_view.again seat_view.lists seat_view.others seat_view.states seat_view.effect (Taking got rest) =
       subst (λ (q : Point). IsAt F seat_view.cmd seat_view.own seat_view.wanted seat_view.again seat_view.lists seat_view.others seat_view.states seat_view.effect q) e seat.at in
-      let there : has seat_view.wanted node ≡ true = subst (λ (ns : List ℕ). has ns node ≡ true) at.all (has_later got rest node (is_first rest node next)) in
+      let there : has seat_view.wanted node ≡ true = subst (λ (ns : List ℕ). has ns node ≡ true) at.all (has_later got rest node (first_there rest node next)) in
       record {
         wanted = λ leaf. there;
         visited = λ inner. absurd (true≢false (sym (seat.holding.wanted_are_leaves node there) ∙ inner));
@@ -153,7 +147,7 @@ module _ (F : Fixed) (rooms : List ℕ) (s : State (Unit {0}) SightView) (r : Is
   taken_by_point (Sensing ids) node e next = cc
   taken_by_point Resolving node e next =
       let before = record_read seat_view.cmd.slot seat_view.again in
-      let there = is_first (write_nodes F before (effect_loaded F seat_view)) node next in
+      let there = first_there (write_nodes F before (effect_loaded F seat_view)) node next in
       let inner = writes_are_inner before (effect_loaded F seat_view) node there in
       record {
         wanted = λ leaf. absurd (true≢false (sym leaf ∙ inner));
@@ -167,7 +161,7 @@ module _ (F : Fixed) (rooms : List ℕ) (s : State (Unit {0}) SightView) (r : Is
       let at : IsAt F seat_view.cmd seat_view.own seat_view.wanted seat_view.again seat_view.lists seat_view.others seat_view.states seat_view.effect (Claiming got rest) =
       subst (λ (q : Point). IsAt F seat_view.cmd seat_view.own seat_view.wanted seat_view.again seat_view.lists seat_view.others seat_view.states seat_view.effect q) e seat.at in
       let settled : is_settled (stage_of seat_view.point) ≡ true = ap (λ (q : Point). is_settled (stage_of q)) e in
-      let there : has (write_nodes F before at.claim.e) node ≡ true = subst (λ (ns : List ℕ). has ns node ≡ true) at.claim.nodes (has_later got rest node (is_first rest node next)) in
+      let there : has (write_nodes F before at.claim.e) node ≡ true = subst (λ (ns : List ℕ). has ns node ≡ true) at.claim.nodes (has_later got rest node (first_there rest node next)) in
       let inner = writes_are_inner before at.claim.e node there in
       record {
         wanted = λ leaf. absurd (true≢false (sym leaf ∙ inner));

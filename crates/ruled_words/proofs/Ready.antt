@@ -6,7 +6,7 @@ use Rattle.atomic_table.specs.declared.shared.Seat.{Seat}
 use Rattle.entity_recs.specs.declared.effect.Effect.{Effect}
 use Rattle.core_steps.specs.Views.{Fixed, Point, Idle, Owning, Taking, Checking, Entering, Entered, Loading, Leaving, Sensing, Resolving, Claiming, Storing, Releasing, Returning, Yielding, View, record_read, write_nodes, effect_loaded}
 use Rattle.core_steps.specs.Steps.{first_yield}
-use Rattle.core_steps.specs.Machine.{Next, resolving, quitting, next_at}
+use Rattle.core_steps.specs.Machine.{resolving, quitting, next_at}
 use Rattle.ruled_words.specs.Sights.{SightView, Tally, tally_after}
 use Rattle.ruled_words.specs.Going.{next_asked, MayGo}
 use Rattle.core_seats.specs.Going.{view_found, word_left}
@@ -17,10 +17,7 @@ use Rattle.ruled_words.specs.Hands.{hand_view, IsAtPlace}
 use Rattle.ruled_words.specs.declared.setting.Setting.{Setting}
 use Rattle.ruled_words.specs.Passes.{PassView, next_of_pass, pass_after, IsPassOf, IsReady, HasGone}
 use Rattle.core_seats.specs.Nexts.{next_resolved, next_point, the_next}
-
-pub some_is : (o : Option Next) → is_some o ≡ true → o ≡ Some (the_next o)
-some_is None e = absurd (false≢true e)
-some_is (Some next) e = refl
+use Rattle.core_seats.proofs.Steps.{some_next}
 
 resolved_comes : (F : Fixed) (view : View) (o : Option Effect) → ((e : Effect) → o ≡ Some e → e ≡ effect_loaded F view) → is_some (next_resolved F view o) ≡ true
     → Some (resolving (effect_loaded F view) (write_nodes F (record_read view.cmd.slot view.again) (effect_loaded F view))) ≡ Some (the_next (next_resolved F view o))
@@ -30,21 +27,21 @@ resolved_comes F view (Some effect) is e =
 
 point_comes : (F : Fixed) (p : PassView) (point : Point) → (is_resolving point ≡ true → (e : Effect) → p.effect ≡ Some e → e ≡ effect_loaded F p.view) → is_some (next_point F p.view p.given p.effect point) ≡ true
     → next_at F p.view p.given point ≡ Some (the_next (next_point F p.view p.given p.effect point))
-point_comes F p Idle is e = some_is _ e
-point_comes F p Owning is e = some_is _ e
-point_comes F p (Taking got rest) is e = some_is _ e
-point_comes F p Checking is e = some_is _ e
-point_comes F p (Entering node plan) is e = some_is _ e
-point_comes F p (Entered node plan) is e = some_is _ e
-point_comes F p (Loading node part players plan) is e = some_is _ e
-point_comes F p (Leaving node plan) is e = some_is _ e
-point_comes F p (Sensing ids) is e = some_is _ e
+point_comes F p Idle is e = some_next _ e
+point_comes F p Owning is e = some_next _ e
+point_comes F p (Taking got rest) is e = some_next _ e
+point_comes F p Checking is e = some_next _ e
+point_comes F p (Entering node plan) is e = some_next _ e
+point_comes F p (Entered node plan) is e = some_next _ e
+point_comes F p (Loading node part players plan) is e = some_next _ e
+point_comes F p (Leaving node plan) is e = some_next _ e
+point_comes F p (Sensing ids) is e = some_next _ e
 point_comes F p Resolving is e = resolved_comes F p.view p.effect (is refl) e
-point_comes F p (Claiming got rest) is e = some_is _ e
-point_comes F p (Storing nodes stores) is e = some_is _ e
-point_comes F p (Releasing nodes) is e = some_is _ e
-point_comes F p (Returning leaves) is e = some_is _ e
-point_comes F p (Yielding nodes leaves) is e = some_is _ e
+point_comes F p (Claiming got rest) is e = some_next _ e
+point_comes F p (Storing nodes stores) is e = some_next _ e
+point_comes F p (Releasing nodes) is e = some_next _ e
+point_comes F p (Returning leaves) is e = some_next _ e
+point_comes F p (Yielding nodes leaves) is e = some_next _ e
 
 comes_asked : (F : Fixed) (p : PassView) (quits : Bool) → (is_resolving p.view.point ≡ true → (e : Effect) → p.effect ≡ Some e → e ≡ effect_loaded F p.view)
     → is_some (if quits then Some (quitting (first_yield F p.view)) else next_point F p.view p.given p.effect p.view.point) ≡ true

@@ -1,14 +1,15 @@
 -- The list words at the start, made player by player.
-use Rattle.std.proofs.Common.{◌≡◌, ℕ, zero, suc, ◌+◌, ◌^◌, ◌<◌, ◌==◌, ◌&&◌, Bool, true, false, if◌then◌else◌, List, [], ◌∷◌, length, set, length-set, get_or, get_or-set_same, get_or-set_other, refl, sym, ap, ◌∙◌, subst, inl, inr, Some, None, arith}
+use Rattle.std.proofs.Common.{◌≡◌, ℕ, ◌+◌, ◌^◌, ◌<◌, ◌==◌, ◌&&◌, Bool, true, false, if◌then◌else◌, List, length, set, length-set, get_or, get_or-set_same, get_or-set_other, refl, sym, ap, ◌∙◌, subst, inl, inr, Some, None, arith}
 use Rattle.std.proofs.lemmas.Bool.{cases_eq, eq-eqb, ne_eqb}
 use Rattle.areanode.specs.Words.{word_of}
-use Rattle.areanode.proofs.Words.{word_of-below}
+use Rattle.areanode.proofs.Words.{word_of-below, word_none, word_next}
 use Rattle.core_steps.specs.declared.sizes.TheConstants.{TABLE_NODES}
 use Rattle.core_steps.specs.Views.{home}
 use Rattle.core_steps.specs.Stands.{is_player, start_words}
+use Rattle.core_steps.proofs.StartWords.{zeros_at, zeros}
 use Rattle.world_tree.specs.Worlds.{WorldView}
 use Rattle.ruled_words.specs.Starts.{world_at_start, fixed_of_world, home_of}
-use Rattle.ruled_words.proofs.Worlds.{word_none, word_next, is_found, is_missing}
+use Rattle.ruled_words.proofs.Worlds.{is_found, is_missing}
 
 -- the player of this slot is live and linked at the node
 abbrev pub links_here : WorldView → ℕ → ℕ → Bool
@@ -18,16 +19,6 @@ links_here w node slot = is_player (fixed_of_world w) slot && (node == home (fix
 pub record AreLinks (w : WorldView) (slot : ℕ) (links : List ℕ) : Type 0 where
   pub size : length links ≡ TABLE_NODES
   pub each : (node : ℕ) → node < TABLE_NODES → get_or links node 0 ≡ word_of slot (links_here w node)
-
--- so many zeros
-abbrev zeros : ℕ → List ℕ
-zeros zero = []
-zeros (suc n) = 0 ∷ zeros n
-
-zeros_at : (n k : ℕ) → get_or (zeros n) k 0 ≡ 0
-zeros_at zero k = refl
-zeros_at (suc n) zero = refl
-zeros_at (suc n) (suc k) = zeros_at n k
 
 pub none_linked_yet : (w : WorldView) → AreLinks w 0 (zeros TABLE_NODES)
 none_linked_yet w = record { size = refl; each = λ node below. zeros_at TABLE_NODES node ∙ word_none (links_here w node) }

@@ -17,9 +17,9 @@ use Rattle.core_steps.specs.Views.{Fixed, Point, Sensing, Resolving, things_in}
 use Rattle.core_seats.specs.ThingBits.{AreApart}
 use Rattle.core_seats.specs.NearKept.{AreThings, thing_with, touching, things_loaded}
 use Rattle.world_tree.specs.Nears.{NearView}
-use Rattle.core_seats.proofs.Rooms.{filter_few}
 use Rattle.core_seats.proofs.ThingsLoaded.{things_of_region, loaded_of_region, things_rise, touching_same, loaded_more, left_first, left_same}
 use Rattle.core_steps.specs.Steps.{sensing, view_after_state}
+use Rattle.core_steps.proofs.Planned.{filter_few}
 use Rattle.core_seats.specs.Nexts.{the_next}
 use Rattle.core_seats.specs.Ready.{is_resolving}
 use Rattle.ruled_words.specs.Passes.{PassView, next_of_pass, pass_after, state_read_next}

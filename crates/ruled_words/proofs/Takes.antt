@@ -1,7 +1,8 @@
 -- A pass takes its next node.
-use Rattle.std.proofs.Common.{arith, ◌≡◌, ◌⊎◌, ℕ, suc, ◌+◌, ◌-◌, ◌*◌, ◌<◌, Bool, true, false, if◌then◌else◌, List, [], ◌∷◌, ◌++◌, refl, sym, ap, ◌∙◌, subst, inl, inr, Option, Some, None, is_some, All}
+use Rattle.std.proofs.Common.{arith, ◌≡◌, ◌⊎◌, ℕ, suc, ◌+◌, ◌*◌, ◌<◌, Bool, true, false, if◌then◌else◌, List, [], ◌∷◌, ◌++◌, refl, sym, ap, ◌∙◌, subst, inl, inr, Option, Some, None, is_some, All}
 use Rattle.std.specs.Prelude.{◌==◌}
 use Rattle.std.proofs.lemmas.List.Elements.{All-from_recursion}
+use Rattle.std.proofs.lemmas.Option.{same_Some}
 use Rattle.areanode.specs.Depths.{sizes_of_depth}
 use Rattle.core_steps.specs.declared.sizes.TheConstants.{NODE_HOLDERS}
 use Rattle.atomic_table.specs.Seated.{TableId}
@@ -27,10 +28,10 @@ pub record Takes (F : Fixed) (p : PassView) (node : ℕ) (next : Next) : Type 0 
   pub writes : is_some (effect_in_hand p) ≡ is_writing stage
   pub left : (found : ℕ) → word_left F p.number p.view next found ≡ (if found == 0 then held_word F p.number stage p.view.wanted node else found)
 
-none_taken : {R : Type 0} (node : ℕ) → None ≡ Some node → R
+pub none_taken : {R : Type 0} (node : ℕ) → None ≡ Some node → R
 none_taken node e = cc
 
-quit_taken : {R : Type 0} (o : Option ℕ) (node : ℕ) → node_taken (quitting o) ≡ Some node → R
+pub quit_taken : {R : Type 0} (o : Option ℕ) (node : ℕ) → node_taken (quitting o) ≡ Some node → R
 quit_taken None node e = cc
 quit_taken (Some n) node e = cc
 
@@ -45,9 +46,6 @@ commit_taken (Some f) nodes node e = cc
 begin_taken : {R : Type 0} (given : Option Command) (node : ℕ) → node_taken_next (beginning given) ≡ Some node → R
 begin_taken None node e = cc
 begin_taken (Some c) node e = cc
-
-some_same : (a b : ℕ) → Some a ≡ Some b → a ≡ b
-some_same a b e = cc
 
 none_in_hand : (kept seen : Option Effect) → kept ≡ None → seen ≡ None → is_some (first_effect kept seen) ≡ false
 none_in_hand kept seen e f = cc
@@ -75,7 +73,7 @@ module _ (F : Fixed) (passes : ℕ) (table : TableId) (p : PassView) (node : ℕ
       → Takes F p node (resolving e nodes)
   claimed_at point at whole e is [] taken = none_taken node taken
   claimed_at point at whole e is (n ∷ nodes) taken =
-      subst (λ (k : ℕ). Takes F p node (ClaimNode e k)) (sym (some_same n node taken)) (record {
+      subst (λ (k : ℕ). Takes F p node (ClaimNode e k)) (sym (same_Some n node taken)) (record {
         takes = inr (e, refl);
         stage = AtClaiming;
         whole = ap (λ (q : Point). is_whole (stage_of q)) at ∙ whole;
@@ -110,10 +108,10 @@ module _ (F : Fixed) (passes : ℕ) (table : TableId) (p : PassView) (node : ℕ
   takes_at Owning at taken = none_taken node taken
   takes_at (Taking got []) at taken = none_taken node taken
   takes_at (Taking got (leaf ∷ rest)) at taken =
-      taken_at (Taking got (leaf ∷ rest)) at leaf (some_same leaf node taken) refl (not_writing (Taking got (leaf ∷ rest)) at refl refl ∙ sym (taking_whole (got ++ node ∷ []) rest))
+      taken_at (Taking got (leaf ∷ rest)) at leaf (same_Some leaf node taken) refl (not_writing (Taking got (leaf ∷ rest)) at refl refl ∙ sym (taking_whole (got ++ node ∷ []) rest))
   takes_at Checking at taken = none_taken node taken
   takes_at (Entering n plan) at taken =
-      taken_at (Entering n plan) at n (some_same n node taken) refl (not_writing (Entering n plan) at refl refl)
+      taken_at (Entering n plan) at n (same_Some n node taken) refl (not_writing (Entering n plan) at refl refl)
   takes_at (Entered n plan) at taken = none_taken node taken
   takes_at (Loading n part [] plan) at taken = none_taken node taken
   takes_at (Loading n part (slot ∷ players) plan) at taken = none_taken node taken
@@ -123,7 +121,7 @@ module _ (F : Fixed) (passes : ℕ) (table : TableId) (p : PassView) (node : ℕ
   takes_at Resolving at taken = resolved_at Resolving at refl p.effect refl taken
   takes_at (Claiming got []) at taken = commit_taken p.view.effect got node taken
   takes_at (Claiming got (n ∷ rest)) at taken =
-      taken_at (Claiming got (n ∷ rest)) at n (some_same n node taken) refl (claim_effect got (n ∷ rest) at)
+      taken_at (Claiming got (n ∷ rest)) at n (same_Some n node taken) refl (claim_effect got (n ∷ rest) at)
   takes_at (Storing nodes []) at taken = none_taken node taken
   takes_at (Storing nodes (store ∷ stores)) at taken = none_taken node taken
   takes_at (Releasing nodes) at taken = give_taken _ node taken

@@ -3,6 +3,7 @@ use Rattle.std.proofs.Common.{◌≡◌, ◌≢◌, ℕ, suc, ◌+◌, ◌-◌, 
 use Rattle.std.specs.Prelude.{◌==◌}
 use Rattle.std.proofs.lemmas.Bool.{cases_eq, cond-true, cond-false, eq-eqb, ne_eqb, le-leb}
 use Rattle.std.proofs.lemmas.List.{append_assoc, length-append}
+use Rattle.std.proofs.lemmas.Option.{same_Some}
 use Rattle.core_steps.specs.declared.sizes.TheConstants.{NODE_HOLDERS}
 use Rattle.atomic_table.specs.Seated.{TableId}
 use Rattle.areanode.specs.Trees.{IsTreeDepth, leaf_node, leaves_of}
@@ -81,9 +82,6 @@ tried_on (GiveNode n) node found left t e = cc
 tried_on (YieldNode n) node found left t e = cc
 tried_on YieldCount node found left t e = cc
 
-same_node : (a b : ℕ) → Some a ≡ Some b → a ≡ b
-same_node a b e = cc
-
 -- a take that is served leaves the refused ones as they are
 served_keeps : (F : Fixed) (r : Refusals) (view : View) (next : Next) (node : ℕ) → node_taken next ≡ Some node → AreRefusals r view → AreRefusals r (view_found F view next 0)
 served_keeps F r view (Begin c) node e is = cc
@@ -106,9 +104,9 @@ refused_is F view (Begin c) node found e busy = cc
 refused_is F view LoadOwn node found e busy = cc
 refused_is F view LoadAgain node found e busy = cc
 refused_is F view (TakeNode n) node found e busy =
-    cond-false (found == 0) (view_found F view (TakeNode n) 0) (view_after_refusal n found view) (ne_eqb found 0 busy) ∙ ap (λ (k : ℕ). view_after_refusal k found view) (same_node n node e)
+    cond-false (found == 0) (view_found F view (TakeNode n) 0) (view_after_refusal n found view) (ne_eqb found 0 busy) ∙ ap (λ (k : ℕ). view_after_refusal k found view) (same_Some n node e)
 refused_is F view (ClaimNode f n) node found e busy =
-    cond-false (found == 0) (view_found F view (ClaimNode f n) 0) (view_after_refusal n found view) (ne_eqb found 0 busy) ∙ ap (λ (k : ℕ). view_after_refusal k found view) (same_node n node e)
+    cond-false (found == 0) (view_found F view (ClaimNode f n) 0) (view_after_refusal n found view) (ne_eqb found 0 busy) ∙ ap (λ (k : ℕ). view_after_refusal k found view) (same_Some n node e)
 refused_is F view (ReadList n plan) node found e busy = cc
 refused_is F view (ReadPlayer n part slot players plan) node found e busy = cc
 refused_is F view (ReadState id ids) node found e busy = cc

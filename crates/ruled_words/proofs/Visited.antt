@@ -1,14 +1,16 @@
 -- A node is read: its list word, and the words of the players under it.
-use Rattle.std.proofs.Common.{◌≡◌, ◌≢◌, ℕ, zero, suc, ◌<◌, arith, Bool, true, false, ◌&&◌, ◌||◌, not, if◌then◌else◌, List, [], ◌∷◌, length, refl, sym, ap, ◌∙◌, subst, inl, inr, bit_or, max, slice_set, get_or-set_same, get_or-set_other, Option, Some, None}
+use Rattle.std.proofs.Common.{◌≡◌, ◌≢◌, ℕ, ◌<◌, Bool, true, false, ◌&&◌, ◌||◌, not, if◌then◌else◌, List, [], ◌∷◌, length, refl, sym, ap, ◌∙◌, subst, inl, inr, bit_or, slice_set, get_or-set_same, get_or-set_other, Option, Some, None}
 use Rattle.std.specs.Prelude.{◌==◌, get_or}
-use Rattle.std.specs.Int.{bit_at}
-use Rattle.std.proofs.lemmas.Bool.{cases_Bool, cond-true, cond-false, eqb-true, eq-eqb, ne_eqb, true≢false, false≢true}
-use Rattle.std.proofs.lemmas.Nat.Bits.{bit_at_or, bit_at-lt, bit_at-zero}
+use Rattle.std.proofs.lemmas.Bool.{cases_Bool, cond-true, cond-false, eqb-true, eq-eqb, ne_eqb, true≢false, and_parts}
+use Rattle.std.proofs.lemmas.Nat.Bits.{bit_at-zero}
+use Rattle.std.proofs.Math.Bool.{and-false, and-true, and-not_self, or-false, or-true}
 use Rattle.areanode.specs.Words.{has_bit}
 use Rattle.core_steps.specs.Views.{Fixed, View, Point, Entered, Loading, Leaving, PlayerRead, player_at, without_player, players_in, is_leaf}
 use Rattle.core_steps.specs.Steps.{loading}
 use Rattle.core_steps.specs.Machine.{Next, ReadList}
+use Rattle.core_steps.proofs.Players.{without_other}
 use Rattle.core_seats.specs.Nexts.{the_next}
+use Rattle.core_seats.proofs.ThingPlaces.{either_bits}
 use Rattle.ruled_words.specs.Hands.{IsPlain}
 use Rattle.ruled_words.specs.Loads.{after_loads, record_loaded_next}
 use Rattle.ruled_words.specs.Passes.{PassView, next_of_pass, pass_after, list_read_next}
@@ -90,24 +92,6 @@ module _ (F : Fixed) (p : PassView) (node slot : ℕ) (players : List ℕ) (now 
 
 -- ---- the words kept by slot
 
-without_other : (others : List PlayerRead) (slot v : ℕ) → (v == slot) ≡ false → player_at (without_player slot others) v ≡ player_at others v
-without_other [] slot v other = refl
-without_other (read ∷ others) slot v other =
-    let rest = without_other others slot v other in
-    elim (cases_Bool (read.slot == slot)) [
-      | inl same ↦
-          let away : (read.slot == v) ≡ false = ne_eqb read.slot v (λ e. true≢false (sym (eq-eqb v slot (sym e ∙ eqb-true read.slot slot same)) ∙ other)) in
-          ap (λ (rs : List PlayerRead). player_at rs v) (cond-false (not (read.slot == slot)) (read ∷ without_player slot others) (without_player slot others) (ap not same)) ∙ rest
-          ∙ sym (cond-false (read.slot == v) (Some read.words) (player_at others v) away)
-      | inr differs ↦
-          ap (λ (rs : List PlayerRead). player_at rs v) (cond-true (not (read.slot == slot)) (read ∷ without_player slot others) (without_player slot others) (ap not differs))
-          ∙ kept (read.slot == v) (Some read.words) (player_at (without_player slot others) v) (player_at others v) rest
-    ]
-  where
-    kept : (b : Bool) (x y z : Option (List ℕ)) → y ≡ z → (if b then x else y) ≡ (if b then x else z)
-    kept true x y z e = refl
-    kept false x y z e = e
-
 -- a player's words are kept where they were loaded, and are as they were where they weren't
 abbrev pub KeptAt : Bool → List (List ℕ) → List (List ℕ) → List PlayerRead → List PlayerRead → ℕ → Type 0
 KeptAt true old_six six old others s = player_at others s ≡ Some (get_or six s [])
@@ -118,27 +102,11 @@ pub record AreKept (players left : ℕ) (old_six six : List (List ℕ)) (old oth
   pub each : (s : ℕ) → s < 64 → KeptAt (has_bit players s && not (has_bit left s)) old_six six old others s
   pub among : (s : ℕ) → s < 64 → has_bit left s ≡ true → has_bit players s ≡ true
 
-not_both : (b : Bool) → (b && not b) ≡ false
-not_both true = refl
-not_both false = refl
-
 pub kept_start : (players : ℕ) (six : List (List ℕ)) (others : List PlayerRead) → AreKept players players six six others others
 kept_start players six others = record {
-  each = λ s within. subst (λ (b : Bool). KeptAt b six six others others s) (sym (not_both (has_bit players s))) (refl, refl);
+  each = λ s within. subst (λ (b : Bool). KeptAt b six six others others s) (sym (and-not_self (has_bit players s))) (refl, refl);
   among = λ s within there. there;
 }
-
-and_true : (b : Bool) → (b && true) ≡ b
-and_true true = refl
-and_true false = refl
-
-and_false : (b : Bool) → (b && false) ≡ false
-and_false true = refl
-and_false false = refl
-
-left_of : (a b : Bool) → (a && b) ≡ true → a ≡ true
-left_of true b e = refl
-left_of false b e = absurd (false≢true e)
 
 module _ (players left rest slot : ℕ) (old_six six : List (List ℕ)) (old others : List PlayerRead) (words : List ℕ) (is : AreKept players left old_six six old others) (below : slot < 64) (there : has_bit left slot ≡ true)
     (without : (i : ℕ) → i < 64 → has_bit rest i ≡ (has_bit left i && not (i == slot))) (long : slot < length six) where
@@ -147,8 +115,8 @@ module _ (players left rest slot : ℕ) (old_six six : List (List ℕ)) (old oth
 
   here_kept : KeptAt (has_bit players slot && not (has_bit rest slot)) old_six (slice_set six slot words) old more slot
   here_kept =
-      let gone : has_bit rest slot ≡ false = without slot below ∙ ap (λ (b : Bool). has_bit left slot && not b) (eq-eqb slot slot refl) ∙ and_false (has_bit left slot) in
-      let done : (has_bit players slot && not (has_bit rest slot)) ≡ true = ap (λ (b : Bool). has_bit players slot && not b) gone ∙ and_true (has_bit players slot) ∙ is.among slot below there in
+      let gone : has_bit rest slot ≡ false = without slot below ∙ ap (λ (b : Bool). has_bit left slot && not b) (eq-eqb slot slot refl) ∙ and-false (has_bit left slot) in
+      let done : (has_bit players slot && not (has_bit rest slot)) ≡ true = ap (λ (b : Bool). has_bit players slot && not b) gone ∙ and-true (has_bit players slot) ∙ is.among slot below there in
       subst (λ (b : Bool). KeptAt b old_six (slice_set six slot words) old more slot) (sym done)
       (cond-true (slot == slot) (Some words) (player_at (without_player slot others) slot) (eq-eqb slot slot refl)
       ∙ ap Some (sym (get_or-set_same six slot words [] long)))
@@ -166,7 +134,7 @@ module _ (players left rest slot : ℕ) (old_six six : List (List ℕ)) (old oth
   at_each s within = elim (cases_Bool (s == slot)) [
     | inl same ↦ subst (λ (n : ℕ). KeptAt (has_bit players n && not (has_bit rest n)) old_six (slice_set six slot words) old more n) (sym (eqb-true s slot same)) here_kept
     | inr other ↦
-        let as_it_was : has_bit rest s ≡ has_bit left s = without s within ∙ ap (λ (b : Bool). has_bit left s && not b) other ∙ and_true (has_bit left s) in
+        let as_it_was : has_bit rest s ≡ has_bit left s = without s within ∙ ap (λ (b : Bool). has_bit left s && not b) other ∙ and-true (has_bit left s) in
         subst (λ (b : Bool). KeptAt (has_bit players s && not b) old_six (slice_set six slot words) old more s) (sym as_it_was)
         (other_kept (has_bit players s && not (has_bit left s)) s (λ e. true≢false (sym (eq-eqb s slot e) ∙ other)) (is.each s within))
   ]
@@ -174,28 +142,8 @@ module _ (players left rest slot : ℕ) (old_six six : List (List ℕ)) (old oth
   pub kept_more : AreKept players rest old_six (slice_set six slot words) old more
   kept_more = record {
     each = at_each;
-    among = λ s within bit. is.among s within (left_of (has_bit left s) (not (s == slot)) (sym (without s within) ∙ bit));
+    among = λ s within bit. is.among s within (and_parts (has_bit left s) (not (s == slot)) (sym (without s within) ∙ bit)).0;
   }
-
--- the bit of two words
-either : (a b : ℕ) → a < 2 → b < 2 → (max a b == 1) ≡ ((a == 1) || (b == 1))
-either zero zero x y = refl
-either zero (suc zero) x y = refl
-either (suc zero) zero x y = refl
-either (suc zero) (suc zero) x y = refl
-either a (suc (suc b)) x y = absurd (omega (arith, y))
-either (suc (suc a)) b x y = absurd (omega (arith, x))
-
-pub has_either : (a b i : ℕ) → has_bit (bit_or a b) i ≡ (has_bit a i || has_bit b i)
-has_either a b i = ap (λ (n : ℕ). n == 1) (bit_at_or a b i) ∙ either (bit_at a i) (bit_at b i) (bit_at-lt a i) (bit_at-lt b i)
-
-or_true : (b : Bool) → (b || true) ≡ true
-or_true true = refl
-or_true false = refl
-
-or_false : (b : Bool) → (b || false) ≡ b
-or_false true = refl
-or_false false = refl
 
 pub no_bit : (i : ℕ) → has_bit 0 i ≡ false
 no_bit i = ap (λ (n : ℕ). n == 1) (bit_at-zero i)
@@ -208,12 +156,12 @@ kept_same one two six others same kept s within =
 -- no player is left
 pub kept_end : (players seen : ℕ) (old_six six : List (List ℕ)) (old others : List PlayerRead) → AreKept players 0 old_six six old others → HasKept seen old_six old → HasKept (bit_or seen players) six others
 kept_end players seen old_six six old others is kept s within =
-    at_bit (has_bit players s) refl (subst (λ (b : Bool). KeptAt b old_six six old others s) (ap (λ (b : Bool). has_bit players s && not b) (no_bit s) ∙ and_true (has_bit players s)) (is.each s within))
+    at_bit (has_bit players s) refl (subst (λ (b : Bool). KeptAt b old_six six old others s) (ap (λ (b : Bool). has_bit players s && not b) (no_bit s) ∙ and-true (has_bit players s)) (is.each s within))
   where
     at_bit : (b : Bool) → has_bit players s ≡ b → KeptAt b old_six six old others s → player_at others s ≡ (if has_bit (bit_or seen players) s then Some (get_or six s []) else None)
     at_bit true there here =
-        here ∙ sym (cond-true (has_bit (bit_or seen players) s) (Some (get_or six s [])) None (has_either seen players s ∙ ap (λ (b : Bool). has_bit seen s || b) there ∙ or_true (has_bit seen s)))
+        here ∙ sym (cond-true (has_bit (bit_or seen players) s) (Some (get_or six s [])) None (either_bits seen players s ∙ ap (λ (b : Bool). has_bit seen s || b) there ∙ or-true (has_bit seen s)))
     at_bit false none here =
         here.0 ∙ kept s within
         ∙ (λ i. if has_bit seen s then Some (sym here.1 i) else None)
-        ∙ ap (λ (b : Bool). if b then Some (get_or six s []) else None) (sym (has_either seen players s ∙ ap (λ (b : Bool). has_bit seen s || b) none ∙ or_false (has_bit seen s)))
+        ∙ ap (λ (b : Bool). if b then Some (get_or six s []) else None) (sym (either_bits seen players s ∙ ap (λ (b : Bool). has_bit seen s || b) none ∙ or-false (has_bit seen s)))

@@ -1,8 +1,9 @@
 -- The nodes of a region are read, one after another.
-use Rattle.std.proofs.Common.{◌≡◌, ℕ, suc, ◌+◌, ◌-◌, ◌*◌, ◌%◌, ◌^◌, ◌<◌, ◌≤◌, arith, Bool, true, false, ◌||◌, if◌then◌else◌, List, [], ◌∷◌, ◌++◌, refl, sym, ap, ◌∙◌, subst, inl, inr, map, bit_or, Option, Some, None}
+use Rattle.std.proofs.Common.{◌≡◌, ℕ, suc, ◌+◌, ◌*◌, ◌%◌, ◌^◌, ◌<◌, ◌≤◌, arith, Bool, false, ◌||◌, if◌then◌else◌, List, [], ◌∷◌, ◌++◌, refl, sym, ap, ◌∙◌, subst, inl, inr, map, bit_or, Option, Some, None}
 use Rattle.std.specs.Prelude.{◌==◌, nat_le, get_or}
 use Rattle.std.proofs.lemmas.Bool.{cases_Bool, cond-true, cond-false, leb-true}
 use Rattle.std.proofs.lemmas.Nat.{mod_below, pow_pos}
+use Rattle.std.proofs.Math.Bool.{or-false, or_assoc}
 use Rattle.core_steps.specs.declared.sizes.TheConstants.{NODE_HOLDERS}
 use Rattle.areanode.specs.Words.{has_bit}
 use Rattle.arena_geo.specs.Bounds.{Bounds}
@@ -14,6 +15,7 @@ use Rattle.core_seats.specs.declared.refusals.Refusals.{Refusals}
 use Rattle.core_seats.specs.Refusals.{AreRefusals}
 use Rattle.core_seats.specs.Going.{word_left}
 use Rattle.core_seats.specs.Nexts.{the_next}
+use Rattle.core_seats.proofs.ThingPlaces.{either_bits}
 use Rattle.ruled_words.specs.Hands.{IsPlain}
 use Rattle.ruled_words.specs.Passes.{PassView, next_of_pass, pass_after, node_given_next, word_after}
 use Rattle.ruled_words.specs.Straight.{in_view, in_view_with, HasKept, nodes_read}
@@ -22,7 +24,7 @@ use Rattle.ruled_words.specs.Visits.{plan_left, read_until, under_until, visited
 use Rattle.ruled_words.proofs.BitWalks.{bits_in, bits_none, bits_low}
 use Rattle.ruled_words.proofs.LoadedWords.{plain_is, plain_after, plain_next, visiting_same}
 use Rattle.ruled_words.proofs.TriedTakes.{leaf_list, leaf_list_first, leaf_there}
-use Rattle.ruled_words.proofs.Visited.{has_either, kept_same, no_bit}
+use Rattle.ruled_words.proofs.Visited.{kept_same, no_bit}
 
 entered_is : (q : Point) (node : ℕ) (plan : List ℕ) → q ≡ Entered node plan → q ≡ Entered node (plan_left q)
 entered_is q node plan e = e ∙ ap (Entered node) (sym (ap plan_left e))
@@ -41,28 +43,20 @@ inner_there F node below = elim (cases_Bool (nat_le (inner_nodes F) node)) [
 
 -- ---- the words kept by slot
 
-or_none : (b : Bool) → (b || false) ≡ b
-or_none true = refl
-or_none false = refl
-
-or_assoc : (a b c : Bool) → ((a || b) || c) ≡ (a || (b || c))
-or_assoc true b c = refl
-or_assoc false b c = refl
-
 -- none are seen yet
 pub none_kept_yet : (seen : ℕ) (six : List (List ℕ)) (others : List PlayerRead) → HasKept seen six others → HasKept (bit_or seen 0) six others
-none_kept_yet seen six others = kept_same seen (bit_or seen 0) six others (λ i. sym (has_either seen 0 i ∙ ap (λ (b : Bool). has_bit seen i || b) (no_bit i) ∙ or_none (has_bit seen i)))
+none_kept_yet seen six others = kept_same seen (bit_or seen 0) six others (λ i. sym (either_bits seen 0 i ∙ ap (λ (b : Bool). has_bit seen i || b) (no_bit i) ∙ or-false (has_bit seen i)))
 
 -- those of one node after another
 pub kept_after : (seen one two : ℕ) (six : List (List ℕ)) (others : List PlayerRead) → HasKept (bit_or (bit_or seen one) two) six others → HasKept (bit_or seen (bit_or one two)) six others
 kept_after seen one two six others =
     kept_same (bit_or (bit_or seen one) two) (bit_or seen (bit_or one two)) six others
-    (λ i. has_either (bit_or seen one) two i ∙ ap (λ (b : Bool). b || has_bit two i) (has_either seen one i) ∙ or_assoc (has_bit seen i) (has_bit one i) (has_bit two i)
-    ∙ sym (has_either seen (bit_or one two) i ∙ ap (λ (b : Bool). has_bit seen i || b) (has_either one two i)))
+    (λ i. either_bits (bit_or seen one) two i ∙ ap (λ (b : Bool). b || has_bit two i) (either_bits seen one i) ∙ or_assoc (has_bit seen i) (has_bit one i) (has_bit two i)
+    ∙ sym (either_bits seen (bit_or one two) i ∙ ap (λ (b : Bool). has_bit seen i || b) (either_bits one two i)))
 
 -- where no player was loaded before
 pub kept_from_none : (seen : ℕ) (six : List (List ℕ)) (others : List PlayerRead) → HasKept (bit_or 0 seen) six others → HasKept seen six others
-kept_from_none seen six others = kept_same (bit_or 0 seen) seen six others (λ i. has_either 0 seen i ∙ ap (λ (b : Bool). b || has_bit seen i) (no_bit i))
+kept_from_none seen six others = kept_same (bit_or 0 seen) seen six others (λ i. either_bits 0 seen i ∙ ap (λ (b : Bool). b || has_bit seen i) (no_bit i))
 
 pub nothing_kept : (six : List (List ℕ)) (others : List PlayerRead) → others ≡ [] → HasKept 0 six others
 nothing_kept six others none slot within =

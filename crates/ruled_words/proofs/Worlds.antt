@@ -1,5 +1,5 @@
 -- The words of a world at the start.
-use Rattle.std.proofs.Common.{◌≡◌, ℕ, zero, suc, ◌+◌, ◌^◌, ◌<◌, Bool, true, false, if◌then◌else◌, List, [], ◌∷◌, ◌++◌, map, take, refl, sym, ap, ◌∙◌, subst, append-nil, inl, inr, Option, Some, None, is_some, arith}
+use Rattle.std.proofs.Common.{◌≡◌, ℕ, zero, suc, ◌+◌, ◌<◌, Bool, true, false, if◌then◌else◌, List, [], ◌∷◌, ◌++◌, map, take, refl, sym, ap, ◌∙◌, subst, append-nil, inl, inr, Option, Some, None, is_some, arith}
 use Rattle.std.specs.Prelude.{◌==◌, ◌&&◌, ◌||◌, nat_lt}
 use Rattle.std.specs.List.{range_with_len}
 use Rattle.std.specs.Option.{option_to_list}
@@ -10,18 +10,19 @@ use Rattle.core_steps.proofs.Puts.{eqb_sym}
 use Rattle.std.proofs.lemmas.List.FromFn.{get_or-map-range_with_len, length-map-range_with_len, map-range_with_len_more}
 use Rattle.entity_recs.specs.declared.rec.Rec.{Rec}
 use Rattle.entity_recs.specs.Bodies.{abs_of}
-use Rattle.areanode.specs.Words.{word_of}
 use Rattle.areanode.specs.Trees.{node_of}
 use Rattle.entity_recs.specs.Worlds.{nobody, record_with, record_or_nobody}
 use Rattle.world_tree.specs.Live.{record_at, live_in, ids_of}
 use Rattle.world_tree.specs.Worlds.{WorldView, record_of, IsLinked}
+use Rattle.world_tree.proofs.LiveRecords.{live-suc}
 use Rattle.core_steps.specs.Encoding.{words_of, nth_word}
 use Rattle.core_steps.specs.Views.{has, home}
 use Rattle.std.proofs.lemmas.Option.{same_Some, none-some}
+use Rattle.std.proofs.Math.Bool.{and-false}
 use Rattle.entity_recs.specs.declared.limits.TheConstants.{IDS}
 use Rattle.core_steps.specs.declared.sizes.TheConstants.{TABLE_WORDS}
 use Rattle.core_steps.specs.Stands.{is_player, start_words}
-use Rattle.core_steps.proofs.StartWords.{dead_record, dead_player, words_if_live, state_if_live}
+use Rattle.core_steps.proofs.StartWords.{dead_record, dead_player, words_if_live, state_if_live, nobody_words}
 use Rattle.ruled_words.specs.Starts.{world_at_start, fixed_of_world, home_of, start_word_at, AreStartWords}
 
 -- no record of these places has an id below theirs
@@ -61,10 +62,6 @@ below_64 slot below = elim (cases_Bool (nat_lt slot 64)) [
   | inr e ↦ let not_below = ltb-false slot 64 e in absurd (omega (arith, below, not_below))
 ]
 
-and_false : (b : Bool) → (b && false) ≡ false
-and_false true = refl
-and_false false = refl
-
 equal_both : (a b : ℕ) → (a == b) ≡ (b == a)
 equal_both a b = elim (cases_Bool (a == b)) [
   | inl e ↦ e ∙ sym (eq-eqb b a (sym (eqb-true a b e)))
@@ -75,10 +72,6 @@ equal_both a b = elim (cases_Bool (a == b)) [
 pub same_has : (xs : List ℕ) (v : ℕ) → has xs v ≡ pool.has xs v
 same_has [] v = refl
 same_has (x ∷ xs) v = ap (λ (b : Bool). b || has xs v) (equal_both x v) ∙ ap (λ (b : Bool). (v == x) || b) (same_has xs v)
-
-pub word_none : (test : ℕ → Bool) → 0 ≡ word_of 0 test
-unfolding word_of
-word_none test = refl
 
 pub home_some : (w : WorldView) (slot : ℕ) (r : Rec) → IsLinked w → has (ids_of w.records) slot ≡ is_some (record_of w slot) → slot < 64 → record_of w slot ≡ Some r
     → Some (node_of w.tree (abs_of r)) ≡ home_of w slot
@@ -92,7 +85,7 @@ pub home_none : (w : WorldView) (slot : ℕ) → has (ids_of w.records) slot ≡
 home_none w slot live is =
     let gone : has (ids_of w.records) slot ≡ false = live ∙ ap is_some is in
     ap (λ (b : Bool). if b then Some (home (fixed_of_world w) ((world_at_start w).record_of slot)) else None)
-    (sym (ap (λ (b : Bool). nat_lt slot 64 && b) gone ∙ and_false (nat_lt slot 64)))
+    (sym (ap (λ (b : Bool). nat_lt slot 64 && b) gone ∙ and-false (nat_lt slot 64)))
 
 -- a home that was found is the player's, and where none was found the player isn't live
 pub is_found : (b : Bool) (x h node : ℕ) → Some h ≡ (if b then Some x else None) → (node == h) ≡ (b && (node == x))
@@ -103,10 +96,6 @@ pub is_missing : (b : Bool) (x node : ℕ) → None ≡ (if b then Some x else N
 is_missing true x node e = absurd (none-some x e)
 is_missing false x node e = refl
 
-pub word_next : (n : ℕ) (test : ℕ → Bool) → word_of (n + 1) test ≡ (if test n then 2 ^ n else 0) + word_of n test
-unfolding word_of
-word_next n test = let next : n + 1 ≡ suc n = omega arith in ap (λ (k : ℕ). word_of k test) next
-
 pub words_more : (w : WorldView) (n : ℕ) → map (start_word_at w) (range_with_len 0 (n + 1)) ≡ map (start_word_at w) (range_with_len 0 n) ++ start_word_at w n ∷ []
 words_more w n = map-range_with_len_more (start_word_at w) 0 n n (omega arith)
 
@@ -116,17 +105,8 @@ all_words w words is = subst (AreStartWords w) (sym is) (record {
   each = λ index below. get_or-map-range_with_len (start_word_at w) 0 TABLE_WORDS index index 0 below (omega arith);
 })
 
--- the live records before a place, and the one of that place
-live_suc : (records : List (Option Rec)) (n : ℕ) → live_in (take (suc n) records) ≡ live_in (take n records) ++ option_to_list (record_at records n)
-live_suc [] zero = refl
-live_suc [] (suc n) = refl
-live_suc (None ∷ records) zero = refl
-live_suc (Some r ∷ records) zero = refl
-live_suc (None ∷ records) (suc n) = live_suc records n
-live_suc (Some r ∷ records) (suc n) = ap (λ (rs : List Rec). r ∷ rs) (live_suc records n)
-
 live_more : (records : List (Option Rec)) (n : ℕ) → live_in (take (n + 1) records) ≡ live_in (take n records) ++ option_to_list (record_at records n)
-live_more records n = let same : n + 1 ≡ suc n = omega arith in ap (λ (k : ℕ). live_in (take k records)) same ∙ live_suc records n
+live_more records n = let same : n + 1 ≡ suc n = omega arith in ap (λ (k : ℕ). live_in (take k records)) same ∙ live-suc records n
 
 pub live_all : (w : WorldView) (n : ℕ) → IsLinked w → n ≡ IDS → live_in (take n w.records) ≡ live_in w.records
 live_all w n linked is = ap live_in (ap (λ (k : ℕ). take k w.records) (is ∙ sym linked.places) ∙ take-length w.records)
@@ -136,15 +116,6 @@ live_some records n r is = live_more records n ∙ ap (λ (o : Option Rec). live
 
 pub live_none : (records : List (Option Rec)) (n : ℕ) → record_at records n ≡ None → live_in (take (n + 1) records) ≡ live_in (take n records)
 live_none records n is = live_more records n ∙ ap (λ (o : Option Rec). live_in (take n records) ++ option_to_list o) is ∙ append-nil (live_in (take n records))
-
--- the words of nobody are 0
-nobody_word : (k : ℕ) → nth_word (words_of nobody) k ≡ 0
-nobody_word zero = refl
-nobody_word (suc zero) = refl
-nobody_word (suc (suc zero)) = refl
-nobody_word (suc (suc (suc zero))) = refl
-nobody_word (suc (suc (suc (suc zero)))) = refl
-nobody_word (suc (suc (suc (suc (suc k))))) = refl
 
 pub start_some : (w : WorldView) (id : ℕ) (r : Rec) → IsLinked w → record_of w id ≡ Some r → (world_at_start w).record_of id ≡ r
 start_some w id r linked is = start_record w linked id ∙ ap record_or_nobody is
@@ -164,4 +135,4 @@ state_at_start w id =
     state_if_live (has F.start.ids id) (F.start.record_of id) (λ dead. dead_record (live_in w.records) id dead)
 
 pub none_word : (w : WorldView) (id k : ℕ) → IsLinked w → record_of w id ≡ None → 0 ≡ nth_word (words_of ((world_at_start w).record_of id)) k
-none_word w id k linked is = sym (ap (λ (r : Rec). nth_word (words_of r) k) (start_none w id linked is) ∙ nobody_word k)
+none_word w id k linked is = sym (ap (λ (r : Rec). nth_word (words_of r) k) (start_none w id linked is) ∙ nobody_words k)

@@ -2,7 +2,7 @@
 use Rattle.std.proofs.Common.{◌≡◌, ℕ, ◌+◌, ◌*◌, ◌/◌, ◌%◌, ◌<◌, ◌≤◌, ◌==◌, nat_lt, Bool, true, false, ◌&&◌, not, length, ℤ, pos, ◌*ℤ◌, ap, inl, inr, arith}
 use Rattle.std.specs.Prelude.{unsigned_abs}
 use Rattle.std.proofs.lemmas.Nat.{mul-le}
-use Rattle.std.proofs.lemmas.Bool.{cases_lt}
+use Rattle.std.proofs.lemmas.Bool.{cases_lt, lt-ltb, ltb-true}
 use Rattle.std.proofs.lemmas.Bool.Decides.{nat_tests}
 use Rattle.std.proofs.lemmas.Int.{unsigned_abs-mul}
 use Rattle.arena_geo.specs.Roots.{IsRoot}
@@ -50,12 +50,6 @@ wish_is_long wish_x wish_y some =
 
 -- ---- each condition
 
-below : (m n : ℕ) → m < n → nat_lt m n ≡ true
-below m n h = grind (arith, nat_tests)
-
-above : (m n : ℕ) → nat_lt m n ≡ true → m < n
-above m n h = grind (arith, nat_tests)
-
 set_to : (n : ℕ) → (n == 1) ≡ true → n ≡ 1
 set_to n h = grind (arith, nat_tests)
 
@@ -70,10 +64,10 @@ clear_from n h = ap (λ (k : ℕ). not (k == 1)) h
 
 wish_to : (wish_x wish_y : ℤ) → has_aim wish_x wish_y ≡ true → 0 < unsigned_abs wish_x + unsigned_abs wish_y
 wish_to wish_x wish_y aim =
-    root_is_none (unsigned_abs wish_x) (unsigned_abs wish_y) (wish_length wish_x wish_y) (IsRoot-wish_length wish_x wish_y) (above 0 (wish_length wish_x wish_y) aim)
+    root_is_none (unsigned_abs wish_x) (unsigned_abs wish_y) (wish_length wish_x wish_y) (IsRoot-wish_length wish_x wish_y) (ltb-true 0 (wish_length wish_x wish_y) aim)
 
 wish_from : (wish_x wish_y : ℤ) → 0 < unsigned_abs wish_x + unsigned_abs wish_y → has_aim wish_x wish_y ≡ true
-wish_from wish_x wish_y some = below 0 (wish_length wish_x wish_y) (omega (arith, wish_is_long wish_x wish_y some))
+wish_from wish_x wish_y some = lt-ltb 0 (wish_length wish_x wish_y) (omega (arith, wish_is_long wish_x wish_y some))
 
 -- ---- all of them
 
@@ -97,5 +91,5 @@ conditions_known c w = (to, from)
     from : IsFiring c w → is_fired c w ≡ true
     from f =
         and_all (is_set c.buttons 1) (nat_lt 0 w.me.ammo) (not (is_set w.me.flags 1)) (nat_lt (length w.got) 8) (has_aim c.wish_x c.wish_y)
-        (set_from (c.buttons / 2 % 2) f.pressed) (below 0 w.me.ammo f.loaded) (clear_from (w.me.flags / 2 % 2) f.stayed) (below (length w.got) 8 f.few)
+        (set_from (c.buttons / 2 % 2) f.pressed) (lt-ltb 0 w.me.ammo f.loaded) (clear_from (w.me.flags / 2 % 2) f.stayed) (lt-ltb (length w.got) 8 f.few)
         (wish_from c.wish_x c.wish_y f.wish)

@@ -1,7 +1,7 @@
 -- Who is hit by a shot, and what a hit does.
 use Rattle.std.proofs.Common.{◌≡◌, ℕ, ◌+◌, ◌-◌, ◌≤◌, ◌<◌, ◌==◌, nat_lt, nat_le, Bool, true, false, cond, ◌&&◌, ◌||◌, not, List, [], ◌∷◌, ◌++◌, length, Contains, Option, Some, None, is_some, refl, sym, ap, ◌∙◌, subst, arith}
 use Rattle.std.specs.Prelude.{find}
-use Rattle.std.proofs.lemmas.Bool.{ne_eqb}
+use Rattle.std.proofs.lemmas.Bool.{ne_eqb, and_parts}
 use Rattle.std.proofs.lemmas.Bool.Decides.{nat_tests}
 use Rattle.std.proofs.lemmas.Option.{none-some, same_Some}
 use Rattle.std.proofs.lemmas.List.{append-nil}
@@ -18,8 +18,8 @@ use Rattle.entity_recs.specs.Commands.{Command}
 use Rattle.box_trace.specs.Steps.{step_count, body_at}
 use Rattle.box_trace.specs.Traces.{trace_of}
 use Rattle.box_trace.proofs.Traces.{IsTrace-trace_of}
+use Rattle.box_trace.proofs.Stops.{next_of_way}
 use Rattle.trigger_rules.specs.Touching.{Walk, bodies_of_solids, new_state}
-use Rattle.trigger_rules.proofs.Steps.{both}
 use Rattle.shot_rules.specs.Targets.{is_set, shot_box, has_aim, way_along, is_in_way, stopper_at, target_of}
 use Rattle.shot_rules.specs.Shots.{with_shot_spent, may_fire, is_fired, is_player, stands, fells, state_after_hit, with_point, after_hit, after_meeting, spent, shot, after_shot}
 use Rattle.shot_rules.specs.Laws.{ShotsTakeAmmunition, IsShooterAfter, ShootersStayThemselves, IsHit, IsShot, Misses, Hits, HitsAreInTheWay, HasOneMore, AtMostOneIsHit, WhoIsFirstIsMet, DamageGrows, IsSameWay, OnlyTheWayMatters}
@@ -63,12 +63,12 @@ firing c w fired =
     let b = nat_lt 0 w.me.ammo in
     let d = not (is_set w.me.flags 1) in
     let e = nat_lt (length w.got) 8 in
-    let may = both (may_fire c w.me w.got) (has_aim c.wish_x c.wish_y) fired in
-    let p = both (a && b && d) e may.0 in
-    let q = both (a && b) d p.0 in
+    let may = and_parts (may_fire c w.me w.got) (has_aim c.wish_x c.wish_y) fired in
+    let p = and_parts (a && b && d) e may.0 in
+    let q = and_parts (a && b) d p.0 in
     record {
-      pressed = (both a b q.0).0;
-      some = below 0 w.me.ammo (both a b q.0).1;
+      pressed = (and_parts a b q.0).0;
+      some = below 0 w.me.ammo (and_parts a b q.0).1;
       stayed = not_true (is_set w.me.flags 1) q.1;
       few = below (length w.got) 8 p.1;
       aim = may.1;
@@ -158,9 +158,6 @@ pub record IsMet (body : Bounds) (way : Vec3) (fixed : List Bounds) (near : List
   pub first : find (is_in_way (body_at body way step)) near ≡ Some r
   pub found : IsFound (is_in_way (body_at body way step)) near r
 
-next_of_way : (k n : ℕ) → (k == n) ≡ false → k ≤ n → k + 1 ≤ n
-next_of_way k n other within = grind (arith, nat_tests)
-
 pub met_is : (body : Bounds) (way : Vec3) (fixed : List Bounds) (near : List Rec) (r : Rec) → target_of body way fixed near ≡ Some r → IsMet body way fixed near r
 met_is body way fixed near r met = by (came == step_count way) refl (sym (target_is body way fixed near) ∙ met)
   where
@@ -203,7 +200,7 @@ pub record IsStanding (r : Rec) : Type 0 where
 
 pub standing : (r : Rec) → stands r ≡ true → IsStanding r
 standing r h =
-    let t = both (is_player r.kind) (nat_lt r.state 100) h in
+    let t = and_parts (is_player r.kind) (nat_lt r.state 100) h in
     record { player = player_is r.kind t.0; few = below r.state t.1 }
   where
     below : (n : ℕ) → nat_lt n 100 ≡ true → n < 100
@@ -223,7 +220,7 @@ hit_is fixed near c w r standing_is met =
       step = m.step;
       from = m.from;
       within = m.within;
-      reached = (both (is_solid r.kind) (overlaps (body_at body way m.step) (body_of r)) m.found.passes).1;
+      reached = (and_parts (is_solid r.kind) (overlaps (body_at body way m.step) (body_of r)) m.found.passes).1;
       free = m.free;
       clear = m.clear;
       first = m.first;

@@ -1,6 +1,6 @@
 -- What a box meets first among records, one record after another.
 use Rattle.std.proofs.Common.{◌≡◌, ℕ, ◌+◌, ◌≤◌, ◌<◌, ◌==◌, Bool, true, false, cond, ◌&&◌, ◌||◌, List, [], ◌∷◌, ◌++◌, Option, Some, None, refl, sym, ap, ◌∙◌, arith}
-use Rattle.std.proofs.lemmas.Bool.{ne_eqb}
+use Rattle.std.proofs.lemmas.Bool.{ne_eqb, or_from, or_parts}
 use Rattle.std.proofs.lemmas.Bool.Decides.{nat_tests}
 use Rattle.std.proofs.lemmas.List.{append_assoc}
 use Rattle.std.proofs.lemmas.List.Folds.{list_any-append}
@@ -34,14 +34,6 @@ blocked_next body way solids next = by (is_blocked (body_at body way ((trace_of 
         let more = is.most ((trace_of body way solids).steps + 1) next (IsFree-more body way solids (trace_of body way solids).steps is.free e) in
         absurd (omega (arith, more))
 
-or_false : (s t : Bool) → s ≡ false → t ≡ false → (s || t) ≡ false
-or_false s t e f = cc
-
-neither : (s t : Bool) → (s || t) ≡ false → (s ≡ false) × (t ≡ false)
-neither false false h = (refl, refl)
-neither false true h = cc
-neither true t h = cc
-
 module _ (body : Bounds) (way : Vec3) (solids : List Bounds) (one : Bounds) where
   abbrev both : List Bounds
   both = solids ++ one ∷ []
@@ -51,20 +43,20 @@ module _ (body : Bounds) (way : Vec3) (solids : List Bounds) (one : Bounds) wher
   free_of_both k a b = record {
     free = λ i from within.
         list_any-append (overlaps (body_at body way i)) solids (one ∷ [])
-        ∙ or_false (is_blocked (body_at body way i) solids) (is_blocked (body_at body way i) (one ∷ [])) (a.free i from within) (b.free i from within);
+        ∙ or_from (is_blocked (body_at body way i) solids) (is_blocked (body_at body way i) (one ∷ [])) (a.free i from within) (b.free i from within);
   }
 
   free_of_solids : (k : ℕ) → IsFree body way both k → IsFree body way solids k
   free_of_solids k a = record {
     free = λ i from within.
-        (neither (is_blocked (body_at body way i) solids) (is_blocked (body_at body way i) (one ∷ []))
+        (or_parts (is_blocked (body_at body way i) solids) (is_blocked (body_at body way i) (one ∷ []))
         (sym (list_any-append (overlaps (body_at body way i)) solids (one ∷ [])) ∙ a.free i from within)).0;
   }
 
   free_of_one : (k : ℕ) → IsFree body way both k → IsFree body way (one ∷ []) k
   free_of_one k a = record {
     free = λ i from within.
-        (neither (is_blocked (body_at body way i) solids) (is_blocked (body_at body way i) (one ∷ []))
+        (or_parts (is_blocked (body_at body way i) solids) (is_blocked (body_at body way i) (one ∷ []))
         (sym (list_any-append (overlaps (body_at body way i)) solids (one ∷ [])) ∙ a.free i from within)).1;
   }
 

@@ -2,11 +2,13 @@
 use Rattle.std.proofs.Common.{◌≡◌, Bool, true, false, cond, ◌&&◌, ◌||◌, List, [], ◌∷◌, ◌++◌, map, filter, Option, Some, None, is_some, refl, sym, ap, ◌∙◌}
 use Rattle.std.specs.Prelude.{find}
 use Rattle.std.proofs.lemmas.List.Folds.{list_any-append}
+use Rattle.std.proofs.lemmas.Bool.{or_parts}
 use Rattle.arena_geo.specs.Bounds.{Bounds}
 use Rattle.arena_geo.specs.Boxes.{overlaps, is_blocked}
 use Rattle.entity_recs.specs.declared.rec.Rec.{Rec}
 use Rattle.entity_recs.specs.Kinds.{is_solid}
 use Rattle.entity_recs.specs.Bodies.{body_of}
+use Rattle.entity_recs.proofs.Ids.{no_record}
 use Rattle.trigger_rules.specs.Touching.{bodies_of_solids}
 use Rattle.shot_rules.specs.Targets.{is_in_way, stopper_at}
 
@@ -83,15 +85,6 @@ pub blocked_by_all : (b : Bounds) (fixed : List Bounds) (near : List Rec)
 blocked_by_all b fixed near =
     list_any-append (overlaps b) fixed (bodies_of_solids near) ∙ ap (λ (t : Bool). is_blocked b fixed || t) (blocked_by_bodies b near)
 
-neither : (s t : Bool) → (s || t) ≡ false → (s ≡ false) × (t ≡ false)
-neither false false h = (refl, refl)
-neither false true h = cc
-neither true t h = cc
-
-none_of : (o : Option Rec) → is_some o ≡ false → o ≡ None
-none_of None h = refl
-none_of (Some r) h = cc
-
 -- a box that nothing blocks is in nobody's way
 pub record IsClear (b : Bounds) (fixed : List Bounds) (near : List Rec) : Type 0 where
   pub fixed_are : is_blocked b fixed ≡ false
@@ -99,8 +92,8 @@ pub record IsClear (b : Bounds) (fixed : List Bounds) (near : List Rec) : Type 0
 
 pub clear_where_free : (b : Bounds) (fixed : List Bounds) (near : List Rec) → is_blocked b (fixed ++ bodies_of_solids near) ≡ false → IsClear b fixed near
 clear_where_free b fixed near free =
-    let t = neither (is_blocked b fixed) (is_some (find (is_in_way b) near)) (sym (blocked_by_all b fixed near) ∙ free) in
-    record { fixed_are = t.0; none = none_of (find (is_in_way b) near) t.1 }
+    let t = or_parts (is_blocked b fixed) (is_some (find (is_in_way b) near)) (sym (blocked_by_all b fixed near) ∙ free) in
+    record { fixed_are = t.0; none = no_record (find (is_in_way b) near) t.1 }
 
 -- ---- what stops a box, with one record more
 

@@ -2,7 +2,7 @@
 use Rattle.std.proofs.Common.{◌≡◌, ◌≢◌, ℕ, zero, suc, ◌+◌, ◌≤◌, ◌==◌, Bool, true, false, not, ◌&&◌, ◌||◌, ◌⊎◌, inl, inr, List, Option, Some, None, is_none, if◌then◌else◌, int_eq, ℤ, pos, negsuc, ◌+ℤ◌, ◌-ℤ◌, refl, sym, ap, ◌∙◌, subst, arith}
 use Rattle.std.specs.List.{list_any}
 use Rattle.std.proofs.lemmas.Int.{ints}
-use Rattle.std.proofs.lemmas.Bool.{both_ways, false≢true}
+use Rattle.std.proofs.lemmas.Bool.{both_ways, false≢true, or_parts}
 use Rattle.std.proofs.lemmas.Bool.Decides.{Decides-int_eq}
 use Rattle.std.proofs.lemmas.Option.{same_Some}
 use Rattle.arena_geo.specs.declared.vec3.Vec3.{Vec3}
@@ -156,9 +156,6 @@ fewer_left Z way shift p some =
     omega arith
 
 -- ---- which traces stop the body on an axis
-first_fails : (a b : Bool) → (a || b) ≡ false → a ≡ false
-first_fails false b h = refl
-first_fails true b h = cc
 
 rest_fails : (a b : Bool) → (a || b) ≡ false → b ≡ false
 rest_fails false b h = h
@@ -231,7 +228,7 @@ first_trace_fails : (traces : ℕ) (axis : Axis) (body : Bounds) (vel way : Vec3
     → list_any (stops_on axis) (traces_along (suc traces) body vel way solids) ≡ false
     → stops_on axis (trace_of body way solids) ≡ false
 unfolding traces_along
-first_trace_fails traces axis body vel way solids none = first_fails _ _ none
+first_trace_fails traces axis body vel way solids none = (or_parts _ _ none).0
 
 -- what the traces left are known to do
 abbrev GoesOnLater : ℕ → Axis → Bounds → Vec3 → List Bounds → Type 0

@@ -5,6 +5,7 @@ use Rattle.arena_geo.specs.declared.vec3.Vec3.{Vec3}
 use Rattle.arena_geo.specs.Vectors.{zero_vector, plus, minus}
 use Rattle.arena_geo.specs.Bounds.{Bounds}
 use Rattle.arena_geo.specs.Boxes.{moved, is_blocked}
+use Rattle.arena_geo.proofs.Vectors.{plus-zero_vector}
 use Rattle.box_trace.specs.declared.axis.Axis.{Axis}
 use Rattle.box_trace.specs.declared.hit.Hit.{Hit}
 use Rattle.box_trace.specs.Axes.{axis_with}
@@ -14,7 +15,7 @@ use Rattle.box_trace.proofs.Traces.{IsTrace-trace_of}
 use Rattle.slide_move.specs.declared.leg.Leg.{Leg}
 use Rattle.slide_move.specs.Slides.{last_leg, leg_on, leg_after, leg_of}
 use Rattle.slide_move.specs.Changes.{IsPartOfWay, KeepsOrStops, EndsFree}
-use Rattle.slide_move.proofs.Ways.{plus-zero_vector, moved-moved, IsPartOfWay-shift_at, without-KeepsOrStops, some_way-IsPart, KeepsOrStops-refl, KeepsOrStops-zero_vector, shift_at-zero}
+use Rattle.slide_move.proofs.Ways.{moved-moved, IsPartOfWay-shift_at, without-KeepsOrStops, some_way-IsPart, KeepsOrStops-refl, KeepsOrStops-zero_vector, shift_at-zero}
 
 -- the body goes a part of the way, the velocity is kept or stopped, and what is left is a part of what it hasn't gone
 pub record IsLeg (vel way : Vec3) (leg : Leg) : Type 0 where

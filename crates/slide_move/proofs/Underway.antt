@@ -1,15 +1,17 @@
 -- A slide on its way: the legs so far and the slide of what is left are the slide of all.
-use Rattle.std.proofs.Common.{◌≡◌, ℕ, suc, arith, Bool, true, false, ◌||◌, List, Option, Some, None, IfSome, refl, sym, ap, ◌∙◌, subst}
+use Rattle.std.proofs.Common.{◌≡◌, ℕ, suc, arith, List, Option, Some, None, IfSome, sym, ap, ◌∙◌, subst}
 use Rattle.std.specs.Option.{option_map_or}
+use Rattle.std.proofs.Math.Bool.{or-false, or_assoc}
 use Rattle.arena_geo.specs.declared.vec3.Vec3.{Vec3}
 use Rattle.arena_geo.specs.Vectors.{IsNear, Fits, plus, minus}
 use Rattle.arena_geo.specs.Bounds.{Bounds, IsInRange}
 use Rattle.arena_geo.specs.Boxes.{moved}
+use Rattle.arena_geo.proofs.Vectors.{plus-zero_vector}
 use Rattle.slide_move.specs.declared.slid.Slid.{Slid}
 use Rattle.slide_move.specs.declared.leg.Leg.{Leg}
 use Rattle.slide_move.specs.Slides.{still, joined, leg_of, slide_along}
 use Rattle.slide_move.specs.Changes.{IsPartOfWay}
-use Rattle.slide_move.proofs.Ways.{plus-zero_vector, zero_vector-plus, plus-assoc, minus-plus, minus-zero_vector, moved-zero_vector, moved-moved, IsPartOfWay-zero_vector, IsPartOfWay-refl, IsPartOfWay-trans, IsPartOfWay-minus, IsPartOfWay-left, IsPartOfWay-plus, IsNear-part, IsNear-more, Fits-near, IsInRange-part}
+use Rattle.slide_move.proofs.Ways.{zero_vector-plus, plus-assoc, minus-plus, minus-zero_vector, moved-zero_vector, moved-moved, IsPartOfWay-zero_vector, IsPartOfWay-refl, IsPartOfWay-trans, IsPartOfWay-minus, IsPartOfWay-left, IsPartOfWay-plus, IsNear-part, IsNear-more, Fits-near, IsInRange-part}
 use Rattle.slide_move.proofs.Legs.{IsLeg, IsLeg-leg_of}
 
 -- the legs so far and the slide of what is left are the slide of all; what is left is a part of what isn't gone yet
@@ -18,17 +20,9 @@ pub record IsUnderway (body : Bounds) (vel way : Vec3) (solids : List Bounds) (t
   pub gone : IsPartOfWay way slid.shift
   pub rest : IsPartOfWay (minus way slid.shift) left
 
-pub or_false : (a : Bool) → (a || false) ≡ a
-or_false true = refl
-or_false false = refl
-
-or_assoc : (a b c : Bool) → ((a || b) || c) ≡ (a || (b || c))
-or_assoc true b c = refl
-or_assoc false b c = refl
-
 joined_still : (slid : Slid) → joined slid (still slid.vel) ≡ slid
 joined_still slid =
-    λ i. record { shift = plus-zero_vector slid.shift i; vel = slid.vel; side = or_false slid.side i }
+    λ i. record { shift = plus-zero_vector slid.shift i; vel = slid.vel; side = or-false slid.side i }
 
 still_joined : (vel : Vec3) (slid : Slid) → joined (still vel) slid ≡ slid
 still_joined vel slid = λ i. record { shift = zero_vector-plus slid.shift i; vel = slid.vel; side = slid.side }

@@ -1,28 +1,25 @@
 -- Parts of a way on all axes, and the velocity.
-use Rattle.std.proofs.Common.{◌≡◌, ℕ, ◌≤◌, Bool, true, false, cond, ◌⊎◌, rules, inl, inr, ℤ, pos, ◌+ℤ◌, ◌-ℤ◌, ◌*ℤ◌, Some, None, IfSome, refl, ◌∙◌, arith}
+use Rattle.std.proofs.Common.{◌≡◌, ℕ, ◌≤◌, Bool, true, false, cond, ◌⊎◌, rules, inl, inr, ℤ, pos, ◌+ℤ◌, ◌-ℤ◌, Some, None, IfSome, refl, ◌∙◌, arith}
 use Rattle.std.specs.Int.{w32}
-use Rattle.std.proofs.Math.Nat.{zero-div}
 use Rattle.std.proofs.lemmas.Int.{ints, fits_signed_from_abs}
+use Rattle.std.proofs.Math.IntN.{+ℤ_assoc}
 use Rattle.arena_geo.specs.declared.vec3.Vec3.{Vec3}
 use Rattle.arena_geo.specs.Vectors.{zero_vector, IsNear, Fits, plus, minus}
 use Rattle.arena_geo.specs.Bounds.{Bounds, IsInRange}
 use Rattle.arena_geo.specs.Boxes.{moved}
+use Rattle.arena_geo.proofs.Vectors.{plus-zero_vector}
 use Rattle.box_trace.specs.declared.axis.Axis.{Axis}
 use Rattle.box_trace.specs.declared.axis.Axis.TheVariants.{X, Y, Z}
-use Rattle.box_trace.specs.Steps.{step_count, part_at, shift_at}
+use Rattle.box_trace.specs.Steps.{step_count, shift_at}
+use Rattle.box_trace.proofs.Insides.{part_at-zero}
 use Rattle.slide_move.specs.Displacements.{without, is_zero_vector, some_way}
 use Rattle.slide_move.specs.Changes.{IsPartOfWay, KeepsOrStops}
 use Rattle.slide_move.proofs.Parts.{IsPart-zero, IsPart-refl, IsPart-trans, IsPart-minus, IsPart-left, IsPart-plus, IsPart-part_at, in_range_after_part}
 
 -- ---- sums
-plus_zero : (a : ℤ) → a +ℤ pos 0 ≡ a
-plus_zero a = omega (arith, ints)
 
 zero_plus : (a : ℤ) → pos 0 +ℤ a ≡ a
 zero_plus a = omega (arith, ints)
-
-plus_assoc : (a b c : ℤ) → (a +ℤ b) +ℤ c ≡ a +ℤ (b +ℤ c)
-plus_assoc a b c = omega (arith, ints)
 
 minus_plus : (a b c : ℤ) → (a -ℤ b) -ℤ c ≡ a -ℤ (b +ℤ c)
 minus_plus a b c = omega (arith, ints)
@@ -30,15 +27,12 @@ minus_plus a b c = omega (arith, ints)
 minus_zero : (a : ℤ) → a -ℤ pos 0 ≡ a
 minus_zero a = omega (arith, ints)
 
-pub plus-zero_vector : (v : Vec3) → plus v zero_vector ≡ v
-plus-zero_vector v = λ i. record { x = plus_zero v.x i; y = plus_zero v.y i; z = plus_zero v.z i }
-
 pub zero_vector-plus : (v : Vec3) → plus zero_vector v ≡ v
 zero_vector-plus v = λ i. record { x = zero_plus v.x i; y = zero_plus v.y i; z = zero_plus v.z i }
 
 pub plus-assoc : (u v w : Vec3) → plus (plus u v) w ≡ plus u (plus v w)
 plus-assoc u v w =
-    λ i. record { x = plus_assoc u.x v.x w.x i; y = plus_assoc u.y v.y w.y i; z = plus_assoc u.z v.z w.z i }
+    λ i. record { x = +ℤ_assoc u.x v.x w.x i; y = +ℤ_assoc u.y v.y w.y i; z = +ℤ_assoc u.z v.z w.z i }
 
 pub minus-plus : (u v w : Vec3) → minus (minus u v) w ≡ minus u (plus v w)
 minus-plus u v w =
@@ -170,11 +164,6 @@ KeepsOrStops-trans u v w p q = record {
 }
 
 -- ---- no step
-times_zero : (a : ℤ) → a *ℤ pos 0 ≡ pos 0
-times_zero a = omega (arith, ints)
-
-part_at-zero : (n : ℕ) (part : ℤ) → part_at n 0 part ≡ pos 0
-part_at-zero n part = rw times_zero (rw zero-div refl)
 
 pub shift_at-zero : (way : Vec3) → shift_at way 0 ≡ zero_vector
 shift_at-zero way = λ i. record {

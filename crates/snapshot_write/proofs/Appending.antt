@@ -1,5 +1,5 @@
 -- Bytes put at the end of a list in turn.
-use Rattle.std.proofs.Common.{◌≡◌, ◌+◌, List, ◌++◌, ap, ◌∙◌, append_assoc}
+use Rattle.std.proofs.Common.{◌≡◌, List, ◌++◌, ap, ◌∙◌, append_assoc}
 
 -- what two calls put at the end is one list
 pub two_in_turn : {X : Type 0} (old a b x y : List X) → x ≡ old ++ a → y ≡ x ++ b → y ≡ old ++ (a ++ b)

@@ -9,8 +9,10 @@ use Rattle.arena_geo.specs.Vectors.{Fits, vector}
 use Rattle.entity_recs.specs.declared.kind.Kind.{Kind}
 use Rattle.entity_recs.specs.declared.kind.Kind.TheVariants.{Player, Ammo, Gem, Teleporter, Goal, Lift}
 use Rattle.entity_recs.specs.Kinds.{number_of}
+use Rattle.byte_lists.specs.Bytes.{byte}
+use Rattle.byte_lists.proofs.Bytes.{number_cells}
 use Rattle.snapshot_write.specs.Snapshots.{signed_bytes, vector_bytes}
-use Rattle.snapshot_write.specs.Fields.{byte, short_at, number_at, signed_at, vector_at, kind_of}
+use Rattle.snapshot_write.specs.Fields.{short_at, number_at, signed_at, vector_at, kind_of}
 use Rattle.snapshot_write.specs.Spelling.{status_of}
 
 -- ---- what was written is read
@@ -44,17 +46,6 @@ status_again false = refl
 -- bytes at each index
 abbrev pub AreBytesBelow : List ℕ → ℕ → Type 0
 AreBytesBelow bytes n = (i : ℕ) → i < n → byte bytes i < 256
-
--- four bytes are those of the number that they are read as
-pub number_cells : (a b c d : ℕ) → a < 256 → b < 256 → c < 256 → d < 256
-    → to_le_bytes w32 (from_le_bytes w32 (a ∷ b ∷ c ∷ d ∷ [])) ≡ a ∷ b ∷ c ∷ d ∷ []
-number_cells a b c d ha hb hc hd =
-    let n = a + b * 256 + c * 65536 + d * 16777216 in
-    let first : n % 256 ≡ a = omega arith in
-    let second : n / 256 % 256 ≡ b = omega arith in
-    let third : n / 65536 % 256 ≡ c = omega arith in
-    let fourth : n / 16777216 % 256 ≡ d = omega arith in
-    rw (first, second, third, fourth) refl
 
 -- and those of the number with a sign
 pub signed_cells : (a b c d : ℕ) → a < 256 → b < 256 → c < 256 → d < 256

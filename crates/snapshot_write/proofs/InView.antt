@@ -2,10 +2,11 @@
 use Rattle.std.proofs.Common.{◌≡◌, ℕ, zero, suc, ◌+◌, ◌*◌, ◌^◌, ◌<◌, ◌≤◌, ◌==◌, Bool, true, false, ◌&&◌, not, cond, if◌then◌else◌, List, [], ◌∷◌, ◌++◌, length, filter, flat_map, take, drop, get_or, Option, Some, None, is_some, append_assoc, zero-add, sym, refl, ap, ◌∙◌, arith}
 use Rattle.std.specs.Int.{from_bool}
 use Rattle.std.specs.Option.{option_map}
-use Rattle.std.proofs.lemmas.Bool.Decides.{nat_tests}
 use Rattle.std.proofs.lemmas.List.{drop_more, get_or-map, length-map}
 use Rattle.std.proofs.lemmas.List.Filters.{length-filter_more}
 use Rattle.std.proofs.lemmas.Option.{none-some, same_Some}
+use Rattle.std.proofs.Math.Bool.{and-false}
+use Rattle.std.proofs.lemmas.Bool.{eq-eqb}
 use Rattle.arena_geo.specs.Bounds.{Bounds}
 use Rattle.arena_geo.specs.Boxes.{touches}
 use Rattle.entity_recs.specs.declared.kind.Kind.TheVariants.{Player}
@@ -179,17 +180,10 @@ module _ (records : List (Option Rec)) (ids : List ℕ) (k d me : ℕ) (view : B
 
 -- ---- a player doesn't see itself, so it sees few
 
-and_false : (b : Bool) → (b && false) ≡ false
-and_false true = refl
-and_false false = refl
-
-same_is : (n : ℕ) → (n == n) ≡ true
-same_is n = grind (arith, nat_tests)
-
 -- a player doesn't see itself
 not_itself : (me : Rec) → is_seen me me ≡ false
 not_itself me =
-    ap (λ b. touches (abs_of me) (view_of me.origin) && not b) (same_is me.id) ∙ and_false (touches (abs_of me) (view_of me.origin))
+    ap (λ b. touches (abs_of me) (view_of me.origin) && not b) (eq-eqb me.id me.id refl) ∙ and-false (touches (abs_of me) (view_of me.origin))
 
 -- a test passes no more than there are
 few_pass : (p : Rec → Bool) (records : List (Option Rec)) → length (filter p (live_in records)) ≤ length records

@@ -1,25 +1,25 @@
 -- Bytes that break no rule spell the snapshot that is in them.
-use Rattle.std.proofs.Common.{◌≡◌, ℕ, zero, suc, ◌+◌, ◌*◌, ◌^◌, ◌<◌, ◌≤◌, ◌==◌, Bool, true, false, ◌&&◌, ◌||◌, not, cond, List, [], ◌∷◌, ◌++◌, length, map, take, drop, flat_map, get_or, Option, Some, None, refl, ap, sym, ◌∙◌, subst, arith, rules, length-drop, length-take-le}
+use Rattle.std.proofs.Common.{◌≡◌, ℕ, zero, suc, ◌+◌, ◌*◌, ◌^◌, ◌<◌, ◌≤◌, ◌==◌, Bool, true, false, ◌&&◌, ◌||◌, not, cond, List, [], ◌∷◌, ◌++◌, length, map, take, drop, flat_map, Option, Some, None, refl, ap, sym, ◌∙◌, subst, arith, rules, length-drop, length-take-le}
 use Rattle.std.specs.Prelude.{nat_le, nat_lt, Result, Ok, Err, IfOk}
 use Rattle.std.specs.Int.{w16, w32, to_le_bytes}
 use Rattle.std.specs.List.{list_any}
 use Rattle.std.specs.Simd.{first_chunks}
 use Rattle.std.proofs.lemmas.Bool.{ltb-false, eqb-true, not-false, or_parts}
 use Rattle.std.proofs.lemmas.Bool.Decides.{nat_tests}
-use Rattle.std.proofs.lemmas.List.{length-map, nil_from_length, take-append-drop, get_or-take, get_or-drop, get_or_default}
+use Rattle.std.proofs.lemmas.List.{length-map, nil_from_length, take-append-drop, get_or-take, get_or-drop}
 use Rattle.arena_geo.specs.Vectors.{Fits}
 use Rattle.entity_recs.specs.Kinds.{number_of, is_item}
 use Rattle.entity_recs.specs.declared.limits.TheConstants.{IDS}
+use Rattle.byte_lists.specs.Bytes.{AreBytes, byte}
 use Rattle.snapshot_write.specs.declared.seen.TheConstants.{MOST_SEEN}
 use Rattle.snapshot_write.specs.declared.snapshot.Snapshot.{Snapshot}
 use Rattle.snapshot_write.specs.declared.snap_fault.SnapFault.{SnapFault}
 use Rattle.snapshot_write.specs.declared.snap_fault.SnapFault.TheVariants.{Short, Version, Order, Count, Long}
 use Rattle.snapshot_write.specs.Snapshots.{vector_bytes, own_bytes}
-use Rattle.snapshot_write.specs.Fields.{byte, number_at, vector_at, count_in, length_with, blocks_in, id_in, kind_of}
+use Rattle.snapshot_write.specs.Fields.{number_at, vector_at, count_in, length_with, blocks_in, id_in, kind_of}
 use Rattle.snapshot_write.specs.Cause.{are_rising, have_id, is_kind, has_wrong_own, has_wrong_field, has_wrong_blocks, breaks, cause_of}
 use Rattle.snapshot_write.specs.Reading.{own_in, seen_in, snapshot_in, answer, reading}
 use Rattle.snapshot_write.specs.Spelling.{status_of, block_of, spelling, IsOwn, IsSeen, AreSeen, ids_of, is_rising, IsSnapshot, Spells}
-use Rattle.snapshot_write.specs.Laws.{AreBytes}
 use Rattle.snapshot_write.proofs.Fields.{AreBytesBelow, one_at, short_spelled, number_spelled, vector_spelled, kind_cell, status_cell}
 use Rattle.snapshot_write.proofs.Blocks.{list_any-map, rising_blocks}
 use Rattle.snapshot_write.proofs.Again.{snapshot_again}
@@ -234,10 +234,6 @@ kept_spelled bytes below kept =
           ∙ ap (λ l. to_le_bytes w16 count ++ l) spelled.spelled
           ∙ ap (λ n. to_le_bytes w16 n ++ flat_map block_of seen) (sym as_many));
     }
-
--- numbers that are below 256 at each index are bytes
-pub bytes_are : (bytes : List ℕ) → ((i : ℕ) → get_or bytes i 0 < 256) → AreBytes bytes
-bytes_are bytes below k d lt = rw (get_or_default bytes k d 0 lt) (below k)
 
 -- and bytes are below 256 at each index
 pub below_are : (bytes : List ℕ) → AreBytes bytes → AreBytesBelow bytes (length bytes)

@@ -7,6 +7,7 @@ use Rattle.std.proofs.lemmas.Bool.{eqb-true, eqb-false}
 use Rattle.std.proofs.lemmas.Bool.Decides.{nat_tests}
 use Rattle.std.proofs.lemmas.List.{length-map}
 use Rattle.std.proofs.lemmas.Int.{fits_signed_from_abs}
+use Rattle.std.proofs.Math.Bool.{or-true}
 use Rattle.arena_geo.specs.declared.vec3.Vec3.{Vec3}
 use Rattle.arena_geo.specs.Vectors.{IsNear, Fits}
 use Rattle.arena_geo.specs.Boxes.{touches}
@@ -19,6 +20,7 @@ use Rattle.entity_recs.specs.Records.{IsIdOf, IsShapeOf, HasCorners, IsRecord, w
 use Rattle.entity_recs.specs.Bodies.{abs_of}
 use Rattle.world_tree.specs.Live.{record_at, live_in, IsEntry, AreEntries}
 use Rattle.entity_recs.specs.declared.limits.TheConstants.{IDS}
+use Rattle.entity_recs.proofs.Ids.{id_in}
 use Rattle.snapshot_write.specs.declared.seen.Seen.{Seen}
 use Rattle.snapshot_write.specs.declared.snapshot.Snapshot.{Snapshot}
 use Rattle.snapshot_write.specs.Snapshots.{view_of, is_seen, seen_by, status_at, entity_bytes, own_bytes, snapshot}
@@ -96,25 +98,13 @@ rising_on s (t ∷ seen) above rising =
     let less : nat_lt s.id t.id ≡ true = grind (arith, nat_tests, above.0) in
     rw (less, rising) refl
 
-or_true : (b : Bool) → (b || true) ≡ true
-or_true true = refl
-or_true false = refl
-
 item_is : (kind : Kind) (state : ℕ) → (is_here kind state || is_item kind) ≡ true
 item_is Player state = refl
-item_is Ammo state = or_true (state == 0)
-item_is Gem state = or_true (state == 0)
+item_is Ammo state = or-true (state == 0)
+item_is Gem state = or-true (state == 0)
 item_is Teleporter state = refl
 item_is Goal state = refl
 item_is Lift state = refl
-
-small_id : (kind : Kind) (id : ℕ) → IsIdOf kind id → id < IDS
-small_id Player id is = omega (arith, is)
-small_id Ammo id is = is.most
-small_id Gem id is = is.most
-small_id Teleporter id is = is.most
-small_id Goal id is = is.most
-small_id Lift id is = is.most
 
 near_fits : (far : ℕ) (v : Vec3) → far ≤ 1048576 → IsNear far v → Fits v
 near_fits far v le near = record {
@@ -124,7 +114,7 @@ near_fits far v le near = record {
 }
 
 record_seen : (r : Rec) → IsRecord r → IsSeen (shown_as r)
-record_seen r is = record { id = small_id r.kind r.id is.id; origin = near_fits 1048576 r.origin (omega arith) is.origin; here = item_is r.kind r.state }
+record_seen r is = record { id = id_in r.kind r.id is.id; origin = near_fits 1048576 r.origin (omega arith) is.origin; here = item_is r.kind r.state }
 
 -- what is shown of places is in order and in range
 record IsOrderly (first : ℕ) (seen : List Seen) : Type 0 where

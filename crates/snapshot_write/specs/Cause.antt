@@ -3,10 +3,11 @@ use Rattle.std.specs.Prelude.{ℕ, ◌==◌, nat_lt, nat_le, Bool, not, ◌&&◌
 use Rattle.std.specs.List.{list_all, list_any, zip}
 use Rattle.entity_recs.specs.declared.limits.TheConstants.{IDS}
 use Rattle.entity_recs.specs.Kinds.{is_item}
+use Rattle.byte_lists.specs.Bytes.{byte}
 use Rattle.snapshot_write.specs.declared.seen.TheConstants.{MOST_SEEN}
 use Rattle.snapshot_write.specs.declared.snap_fault.SnapFault.{SnapFault}
 use Rattle.snapshot_write.specs.declared.snap_fault.SnapFault.TheVariants.{Short, Version, Order, Count, Long}
-use Rattle.snapshot_write.specs.Fields.{byte, count_in, length_with, blocks_in, id_in, kind_of}
+use Rattle.snapshot_write.specs.Fields.{count_in, length_with, blocks_in, id_in, kind_of}
 
 -- the id of each block is below that of the next one
 abbrev pub are_rising : List (List ℕ) → Bool

@@ -1,15 +1,12 @@
 -- The fields of a snapshot, at their places in its bytes.
-use Rattle.std.specs.Prelude.{ℕ, ℤ, ◌+◌, ◌*◌, ◌==◌, if◌then◌else◌, List, [], ◌∷◌, drop, slice_index}
+use Rattle.std.specs.Prelude.{ℕ, ℤ, ◌+◌, ◌*◌, ◌==◌, if◌then◌else◌, List, [], ◌∷◌, drop}
 use Rattle.std.specs.Int.{w16, w32, cast_signed, from_le_bytes}
 use Rattle.std.specs.Simd.{first_chunks}
 use Rattle.arena_geo.specs.declared.vec3.Vec3.{Vec3}
 use Rattle.arena_geo.specs.Vectors.{vector}
 use Rattle.entity_recs.specs.declared.kind.Kind.{Kind}
 use Rattle.entity_recs.specs.declared.kind.Kind.TheVariants.{Player, Ammo, Gem, Teleporter, Goal, Lift}
-
--- byte i, or 0 past the end
-abbrev pub byte : List ℕ → ℕ → ℕ
-byte bytes i = slice_index bytes i
+use Rattle.byte_lists.specs.Bytes.{byte}
 
 -- the number of 16 bits at i, low byte first
 abbrev pub short_at : List ℕ → ℕ → ℕ

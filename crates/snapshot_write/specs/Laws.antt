@@ -1,8 +1,9 @@
 -- What holds of snapshots: of their spellings and causes, and of what they show.
-use Rattle.std.specs.Prelude.{◌≡◌, ◌↔◌, ℕ, ◌^◌, ◌<◌, List, All, Contains, length, Option, Some, None, Ok, Err}
+use Rattle.std.specs.Prelude.{◌≡◌, ◌↔◌, ℕ, ◌^◌, ◌<◌, List, Contains, length, Option, Some, None, Ok, Err}
 use Rattle.entity_recs.specs.declared.limits.TheConstants.{IDS}
 use Rattle.entity_recs.specs.declared.rec.Rec.{Rec}
 use Rattle.world_tree.specs.Live.{record_at, live_in, AreEntries}
+pub use Rattle.byte_lists.specs.Bytes.{AreBytes}
 use Rattle.snapshot_write.specs.declared.reply_buf.TheConstants.{REPLY_ROOM}
 use Rattle.snapshot_write.specs.declared.seen.Seen.{Seen}
 use Rattle.snapshot_write.specs.declared.seen.TheConstants.{MOST_SEEN}
@@ -13,10 +14,6 @@ use Rattle.snapshot_write.specs.Spelling.{spelling, IsSnapshot, Spells}
 use Rattle.snapshot_write.specs.Cause.{cause_of}
 use Rattle.snapshot_write.specs.Reading.{reading}
 use Rattle.snapshot_write.specs.Shown.{shown, IsInSight, IsShownTo}
-
--- each number is a byte
-abbrev pub AreBytes : List ℕ → Type 0
-AreBytes bytes = All (λ b. b < 2 ^ 8) bytes
 
 -- the bytes spell some snapshot
 pub record SpellsSome (bytes : List ℕ) : Type 0 where

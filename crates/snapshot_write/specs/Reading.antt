@@ -3,10 +3,11 @@ use Rattle.std.specs.Prelude.{ℕ, ◌==◌, List, map, Option, Some, None, Resu
 use Rattle.entity_recs.specs.declared.kind.Kind.TheVariants.{Player}
 use Rattle.entity_recs.specs.declared.rec.Rec.{Rec}
 use Rattle.entity_recs.specs.declared.bodies.TheConstants.{PLAYER_MINS, PLAYER_MAXS}
+use Rattle.byte_lists.specs.Bytes.{byte}
 use Rattle.snapshot_write.specs.declared.seen.Seen.{Seen}
 use Rattle.snapshot_write.specs.declared.snapshot.Snapshot.{Snapshot}
 use Rattle.snapshot_write.specs.declared.snap_fault.SnapFault.{SnapFault}
-use Rattle.snapshot_write.specs.Fields.{byte, number_at, vector_at, blocks_in, id_in, kind_of}
+use Rattle.snapshot_write.specs.Fields.{number_at, vector_at, blocks_in, id_in, kind_of}
 use Rattle.snapshot_write.specs.Cause.{cause_of}
 
 -- the player's own record: its body is a player's and its state 0, which aren't in the bytes

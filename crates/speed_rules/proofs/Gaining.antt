@@ -1,10 +1,11 @@
 -- How far a velocity with a gain comes along a wish, in whole numbers.
-use Rattle.std.proofs.Common.{◌≡◌, ℕ, zero, suc, ◌+◌, ◌-◌, ◌*◌, ◌/◌, ◌<◌, ◌≤◌, ℤ, pos, negsuc, neg_ℤ, ◌+ℤ◌, ◌≤ℤ◌, refl, arith, inl, inr}
+use Rattle.std.proofs.Common.{◌≡◌, ℕ, suc, ◌+◌, ◌-◌, ◌*◌, ◌/◌, ◌<◌, ◌≤◌, ℤ, pos, negsuc, neg_ℤ, ◌+ℤ◌, ◌≤ℤ◌, arith, inl, inr}
 use Rattle.std.specs.Prelude.{int_div}
-use Rattle.std.proofs.Math.Nat.{zero-div, div-mul-le_self}
+use Rattle.std.proofs.Math.Nat.{div-mul-le_self}
 use Rattle.std.proofs.lemmas.Bool.{cases_lt}
 use Rattle.std.proofs.lemmas.Int.{ints}
 use Rattle.arena_geo.proofs.Squares.{le_from_square}
+use Rattle.arena_geo.proofs.Quotients.{int_div-neg}
 use Rattle.speed_rules.proofs.Shares.{below_from_times}
 
 -- ---- products
@@ -61,10 +62,6 @@ pub record Gains (gain whole sum : ℕ) (old new : ℤ) : Type 0 where
   pub most : sum ≤ (gain + 1) * whole → new ≤ℤ (old +ℤ pos (gain + 1))
   pub least : 2 * gain * whole ≤ 2 * sum + 3 * whole → (old +ℤ pos gain) ≤ℤ (new +ℤ pos 3)
 
-div_neg : (n whole : ℕ) → int_div (neg_ℤ (pos n)) (pos whole) ≡ neg_ℤ (pos (n / whole))
-div_neg zero whole = rw zero-div refl
-div_neg (suc n) whole = refl
-
 gains_above : (n sum gain whole : ℕ) → 0 < whole → Gains gain whole sum (pos (n / whole)) (pos ((n + sum) / whole))
 gains_above n sum gain whole some = record {
   most = λ about. omega (arith, ints, sum_has_at_most n sum gain whole some about);
@@ -94,11 +91,11 @@ GainsFrom old sum gain whole = Gains gain whole sum (int_div old (pos whole)) (i
 
 gains_to_below : (n m sum gain whole : ℕ) → m ≡ n + sum → 0 < whole → GainsFrom (neg_ℤ (pos m)) sum gain whole
 gains_to_below n m sum gain whole is some =
-    rw (still_below n m sum is, div_neg m whole, div_neg n whole, is) (gains_below n sum gain whole some)
+    rw (still_below n m sum is, int_div-neg m whole, int_div-neg n whole, is) (gains_below n sum gain whole some)
 
 gains_to_above : (n m sum gain whole : ℕ) → sum ≡ m + n → 0 < whole → GainsFrom (neg_ℤ (pos m)) sum gain whole
 gains_to_above n m sum gain whole is some =
-    rw (across_zero n m sum is, div_neg m whole, is) (gains_across m n gain whole some)
+    rw (across_zero n m sum is, int_div-neg m whole, is) (gains_across m n gain whole some)
 
 gains_from_below : (m sum gain whole : ℕ) → 0 < whole → GainsFrom (neg_ℤ (pos m)) sum gain whole
 gains_from_below m sum gain whole some =

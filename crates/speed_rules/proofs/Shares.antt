@@ -1,5 +1,5 @@
 -- Lengths and shares.
-use Rattle.std.proofs.Common.{◌≡◌, ℕ, zero, suc, ◌+◌, ◌*◌, ◌/◌, ◌^◌, ◌<◌, ◌≤◌, ℤ, pos, negsuc, neg_ℤ, ◌+ℤ◌, ◌*ℤ◌, ◌≤ℤ◌, refl, ap, ◌∙◌, arith}
+use Rattle.std.proofs.Common.{◌≡◌, ℕ, zero, suc, ◌+◌, ◌*◌, ◌/◌, ◌^◌, ◌<◌, ◌≤◌, ℤ, pos, negsuc, neg_ℤ, ◌+ℤ◌, ◌*ℤ◌, ◌≤ℤ◌, ap, ◌∙◌, arith}
 use Rattle.std.specs.Prelude.{unsigned_abs, int_div, FitsSigned}
 use Rattle.std.specs.Int.{w32, w64, cast_signed, cast_unsigned}
 use Rattle.std.proofs.lemmas.Nat.{mul-le, div_below}
@@ -7,15 +7,8 @@ use Rattle.std.proofs.Math.Nat.{zero-div, div-le_self}
 use Rattle.std.proofs.lemmas.Int.{ints, to_z-of_z, unsigned_abs-mul, quot_is, quot_fits, fits_signed_from_abs}
 use Rattle.arena_geo.specs.Roots.{IsRoot, root_of}
 use Rattle.arena_geo.proofs.Squares.{le_from_square, root_is_greatest}
+use Rattle.arena_geo.proofs.Quotients.{abs-int_div}
 use Rattle.speed_rules.specs.Measures.{scaled}
-
-abs-neg : (n : ℕ) → unsigned_abs (neg_ℤ (pos n)) ≡ n
-abs-neg zero = refl
-abs-neg (suc n) = refl
-
-pub abs-int_div : (z : ℤ) (whole : ℕ) → unsigned_abs (int_div z (pos whole)) ≡ unsigned_abs z / whole
-abs-int_div (pos n) whole = refl
-abs-int_div (negsuc n) whole = abs-neg (suc n / whole)
 
 pub abs-scaled : (part by : ℤ) (whole : ℕ) → unsigned_abs (scaled part by whole) ≡ unsigned_abs part * unsigned_abs by / whole
 abs-scaled part by whole = abs-int_div (part *ℤ by) whole ∙ ap (λ n. n / whole) (unsigned_abs-mul part by)

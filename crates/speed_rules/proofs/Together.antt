@@ -81,7 +81,7 @@ same_part v w wish_x wish_y x_is y_is = rw (x_is, y_is) refl
 cut_added : (old new : ℤ) (most : ℕ) → unsigned_abs old ≤ 471040 → most ≤ 40960 → unsigned_abs (new -ℤ old) ≤ most → cut new ≡ new
 cut_added old new most small few adds = omega (arith, ints, clamps)
 
-most_gained : (ms : ℕ) → ms ≤ 50 → 10 * 81920 * ms / 1000 ≤ 40960
+pub most_gained : (ms : ℕ) → ms ≤ 50 → 10 * 81920 * ms / 1000 ≤ 40960
 most_gained ms brief = omega arith
 
 -- the velocity w has the course of v with its gain, so its wish leads it to this cap

@@ -1,5 +1,5 @@
 -- The frames of a transcript that were read so far, each with the one right journal whose lines are there.
-use Rattle.std.proofs.Common.{◌≡◌, ℕ, zero, suc, ◌+◌, ◌*◌, ◌-◌, ◌≤◌, List, [], ◌∷◌, ◌++◌, length, take, drop, IfSome, refl, sym, ap, ◌∙◌, subst, add-zero, append-nil, arith, length-append, take-append-drop}
+use Rattle.std.proofs.Common.{◌≡◌, ℕ, zero, suc, ◌+◌, ◌*◌, ◌≤◌, List, [], ◌∷◌, ◌++◌, length, take, drop, IfSome, refl, sym, ap, ◌∙◌, subst, add-zero, append-nil, arith, length-append, take-append-drop}
 use Rattle.std.specs.Prelude.{⊤}
 use Rattle.edge_io.specs.declared.source.Source as sources
 use Rattle.entity_recs.specs.declared.effect.Entry.{Entry}
@@ -10,12 +10,13 @@ use Rattle.client_ports.specs.States.{State}
 use Rattle.client_ports.specs.Receiving.{Receiving}
 use Rattle.plain_server.specs.RecordsById.{opening}
 use Rattle.plain_server.specs.Frames.{received_in, state_after, state_played, IsRightAfter, AreRight}
+use Rattle.plain_server.proofs.Turns.{right_count}
 use Rattle.demo_lines.specs.Reads.{DemoReaderView}
 use Rattle.demo_lines.specs.Rest.{HasRest}
 use Rattle.out_text.specs.FrameLines.{lines_with, run_lines}
 use Rattle.out_text.specs.OutLines.{EndLine, printed, text_of}
 use Rattle.out_text.specs.Transcripts.{BeginsWith, run_moves, IsTranscript, HasRightPieces, IsWrongAfter}
-use Rattle.out_text.proofs.Runs.{length-right, run_lines-append, run_lines-push, state_played-push, right-push, right-split_last, right-take, text_of-append}
+use Rattle.out_text.proofs.Runs.{run_lines-append, run_lines-push, state_played-push, right-push, right-split_last, right-take, text_of-append, next_number, same_taken}
 use Rattle.client_ports.specs.declared.received.TheConstants.{MOST_FRAME_MOVES}
 use Rattle.transcript_check.specs.Reading.{counted, ahead_of, ReadsLines, Misses}
 use Rattle.transcript_check.specs.Checkers.{CheckerView, new_checker, IsChecker}
@@ -24,9 +25,6 @@ use Rattle.transcript_check.specs.Verdicts.{IsRight, IsWrongAt, IsVerdict}
 use Rattle.transcript_check.specs.declared.verdict.Verdict.TheVariants.{Right, Wrong}
 use Rattle.transcript_check.proofs.Texts.{text_of-one, begins-after, begins-front, if_some-over, if_some-all}
 use Rattle.transcript_check.proofs.ReadingOn.{counted-both, reads-none, reads-both}
-
-next_number : (frame n : ℕ) → frame + 1 + n ≡ frame + suc n
-next_number frame n = omega arith
 
 -- the moves of one frame more
 run_moves-push : (map : MapView) (frame : ℕ) (s : State) (frames : List (List Arrival)) (arrivals : List Arrival) (js : List (List Entry)) (j : List Entry) → length js ≡ length frames
@@ -92,7 +90,7 @@ module _ (map : MapView) (done : List (List Arrival)) (arrivals : List Arrival) 
 
   more-there : (others : List (List Entry)) → AreRight map 0 (opening map) (done ++ arrivals ∷ []) others → BeginsWith bytes (text_of (run_lines map 0 (opening map) (done ++ arrivals ∷ []) others)) → MoreThere others
   more-there others right begins =
-      let long : length others ≡ length done + 1 = length-right map 0 (opening map) (done ++ arrivals ∷ []) others right ∙ length-append done (arrivals ∷ []) in
+      let long : length others ≡ length done + 1 = right_count map 0 (opening map) (done ++ arrivals ∷ []) others right ∙ length-append done (arrivals ∷ []) in
       let p = pushed (length done) others long in
       by p.front p.last p.same p.is (subst (AreRight map 0 (opening map) (done ++ arrivals ∷ [])) p.is right)
       (subst (λ (ls : List (List Entry)). BeginsWith bytes (text_of (run_lines map 0 (opening map) (done ++ arrivals ∷ []) ls))) p.is begins)
@@ -143,13 +141,6 @@ take-one_more (x ∷ done) arrivals more =
     let next : length (x ∷ done) + 1 ≡ suc (length done + 1) = omega arith in
     ap (λ n. take n (x ∷ done ++ arrivals ∷ more)) next ∙ ap (λ (xs : List (List Arrival)). x ∷ xs) (take-one_more done arrivals more)
 
-same_taken : (k : ℕ) (frames : List (List Arrival)) (js : List (List Entry)) → length js ≡ length frames → length (take k js) ≡ length (take k frames)
-same_taken zero frames js same = refl
-same_taken (suc k) [] [] same = refl
-same_taken (suc k) [] (j ∷ js) same = cc
-same_taken (suc k) (x ∷ frames) [] same = cc
-same_taken (suc k) (x ∷ frames) (j ∷ js) same = let rest : length js ≡ length frames = cc in ap suc (same_taken k frames js rest)
-
 -- where the text of frames is there, so is that of the first of them
 pub front-begins : (map : MapView) (frames : List (List Arrival)) (js : List (List Entry)) (bytes : List ℕ) (k : ℕ) → AreRight map 0 (opening map) frames js
     → BeginsWith bytes (text_of (run_lines map 0 (opening map) frames js)) → BeginsWith bytes (text_of (run_lines map 0 (opening map) (take k frames) (take k js)))
@@ -158,7 +149,7 @@ front-begins map frames js bytes k right begins =
     let first = take k frames in
     let front = run_lines map 0 s first (take k js) in
     let rest = run_lines map (0 + length first) (state_played map 0 s first (take k js)) (drop k frames) (drop k js) in
-    let both = run_lines-append map 0 s first (drop k frames) (take k js) (drop k js) (same_taken k frames js (length-right map 0 s frames js right)) in
+    let both = run_lines-append map 0 s first (drop k frames) (take k js) (drop k js) (same_taken k frames js (right_count map 0 s frames js right)) in
     let whole : run_lines map 0 s frames js ≡ front ++ rest =
     ap (λ (fs : List (List Arrival)). run_lines map 0 s fs js) (sym (take-append-drop k frames))
     ∙ ap (λ (ls : List (List Entry)). run_lines map 0 s (first ++ drop k frames) ls) (sym (take-append-drop k js)) ∙ both in
@@ -282,7 +273,7 @@ module _ {S : Type 0} (s : sources.Ghosts S) (map : MapView) where
         let t : TakesFrame s now new demo' demo'' checker_after c' arrivals = subst (λ (u : CheckerView). TakesFrame s now new demo' demo'' u c' arrivals) checker_is taken in
         let js = so.journals in
         let j = t.journal in
-        let same = length-right map 0 (opening map) done js so.right in
+        let same = right_count map 0 (opening map) done js so.right in
         let front = run_lines map 0 (opening map) done js in
         let here = lines_with map (0 + length done) received_next j in
         let both = run_lines-push map 0 (opening map) done arrivals js j same in

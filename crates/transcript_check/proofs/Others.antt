@@ -7,10 +7,11 @@ use Rattle.std.proofs.lemmas.List.Elements.{filter-append}
 use Rattle.entity_recs.specs.declared.rec.Rec.{Rec}
 use Rattle.entity_recs.specs.Worlds.{others_of}
 use Rattle.world_tree.specs.Live.{record_at, live_in, AreEntries}
+use Rattle.world_tree.proofs.LiveRecords.{live-suc}
 use Rattle.plain_server.specs.RecordsById.{world_of}
 use Rattle.plain_server.proofs.Others.{others-are}
 use Rattle.transcript_check.specs.Moves.{is_other}
-use Rattle.plain_server.proofs.SlotPlayers.{live-suc, few_first}
+use Rattle.plain_server.proofs.SlotPlayers.{few_first}
 
 fewer : (test : Rec → Bool) (rs : List Rec) → length (filter test rs) ≤ length rs
 fewer test [] = omega arith

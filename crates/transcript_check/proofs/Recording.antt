@@ -34,7 +34,7 @@ ended-stage (From a) is = cc
 ended-stage End is = refl
 
 -- a map is there after an event
-map-there : (old new : Reading) → (is_map_whole old.stage ≡ true → IsSome old.map) → KeepsMap old new → IsSome new.map
+pub map-there : (old new : Reading) → (is_map_whole old.stage ≡ true → IsSome old.map) → KeepsMap old new → IsSome new.map
 map-there old new has keeps = by (is_map_whole old.stage) refl
   where
     by : (whole : Bool) → is_map_whole old.stage ≡ whole → IsSome new.map

@@ -1,5 +1,5 @@
 -- The moves of a frame, taken in any order in which each player's are in the order sent.
-use Rattle.std.specs.Prelude.{◌≡◌, ℕ, ◌+◌, ◌==◌, ◌≤◌, Bool, false, not, List, [], ◌∷◌, ◌++◌, length, map as map_list, Option}
+use Rattle.std.specs.Prelude.{◌≡◌, ℕ, ◌==◌, ◌≤◌, Bool, false, not, List, [], ◌∷◌, ◌++◌, length, map as map_list, Option}
 use Rattle.std.specs.List.{AllByRecursion}
 use Rattle.entity_recs.specs.declared.rec.Rec.{Rec}
 use Rattle.entity_recs.specs.declared.effect.Entry.{Entry}

@@ -2,7 +2,7 @@
 use Rattle.std.proofs.Common.{◌≡◌, ℕ, zero, suc, ◌+◌, ◌-◌, ◌<◌, ◌≤◌, ◌==◌, nat_le, nat_lt, slice_index, bit_or, Bool, true, false, if◌then◌else◌, List, [], ◌∷◌, length, All, Option, Some, None, option_and_then, slice_get, refl, sym, ap, ◌∙◌, subst, inl, inr, arith}
 use Rattle.std.specs.List.{AllByRecursion, IsDistinct}
 use Rattle.std.specs.List.Sorted.{IsStrictlyIncreasing}
-use Rattle.std.proofs.lemmas.Bool.{ne_eqb}
+use Rattle.std.proofs.lemmas.Bool.{ne_eqb, and_parts}
 use Rattle.std.proofs.lemmas.Bool.Decides.{nat_tests}
 use Rattle.std.proofs.lemmas.List.Elements.{All-head, All-tail}
 use Rattle.std.proofs.lemmas.List.Kept.{AllPairs-from_increasing}
@@ -24,7 +24,7 @@ use Rattle.arena_map.specs.Maps.{MapView, IsMap, IsSpawn, IsThingInside, dest_of
 use Rattle.item_rules.specs.Items.{has_room_for, may_take, with_item, after_item}
 use Rattle.trigger_rules.specs.Touching.{touched_by, solids_among, Walk, first_walk, scored, leapt, after_trigger, touched}
 use Rattle.trigger_rules.specs.Laws.{ids_of, is_same_record, IsPlayerOn, PlayersStayOn, StatesAreApart}
-use Rattle.trigger_rules.proofs.Steps.{Step, step, both, walk-keeps}
+use Rattle.trigger_rules.proofs.Steps.{Step, step, walk-keeps}
 use Rattle.trigger_rules.proofs.Taken.{were_there, ids_rise}
 
 -- ---- destinations
@@ -102,7 +102,7 @@ on-goal map me is = record {
 }
 
 on-item : (map : MapView) (me item : Rec) → may_take me item ≡ true → IsPlayerOn map me → IsPlayerOn map (after_item me item)
-on-item map me item may is = subst (λ (b : Bool). IsPlayerOn map (if b then with_item me item.kind else me)) (sym may) (by item.kind (both (item.state == 0) (has_room_for me item.kind) may).1)
+on-item map me item may is = subst (λ (b : Bool). IsPlayerOn map (if b then with_item me item.kind else me)) (sym may) (by item.kind (and_parts (item.state == 0) (has_room_for me item.kind) may).1)
   where
     gems : nat_lt me.carry 8 ≡ true → me.carry + 1 ≤ 8
     gems room = grind (arith, nat_tests)

@@ -1,7 +1,7 @@
 -- What one record changes in the walk: nothing, an item that is taken, a goal, or a leap.
-use Rattle.std.proofs.Common.{◌≡◌, ◌⊎◌, ℕ, ◌+◌, ◌<◌, ◌==◌, Bool, true, false, ◌&&◌, nat_lt, if◌then◌else◌, List, [], ◌∷◌, ◌++◌, length, fold, Option, Some, None, refl, sym, ap, subst, inl, inr, arith}
+use Rattle.std.proofs.Common.{◌≡◌, ◌⊎◌, ℕ, ◌+◌, ◌<◌, ◌==◌, Bool, true, false, nat_lt, if◌then◌else◌, List, [], ◌∷◌, ◌++◌, length, fold, Option, Some, None, refl, sym, ap, subst, inl, inr, arith}
 use Rattle.std.specs.List.{AllByRecursion}
-use Rattle.std.proofs.lemmas.Bool.{eqb-true}
+use Rattle.std.proofs.lemmas.Bool.{eqb-true, and_parts}
 use Rattle.std.proofs.lemmas.Bool.Decides.{nat_tests}
 use Rattle.arena_geo.specs.declared.vec3.Vec3.{Vec3}
 use Rattle.arena_geo.specs.Bounds.{Bounds}
@@ -111,17 +111,13 @@ item-change me item = by (may_take me item) item.kind
 pub true-false : true ≡ false → ⊥
 true-false h = cc
 
-pub both : (a b : Bool) → (a && b) ≡ true → (a ≡ true) × (b ≡ true)
-both true b h = (refl, h)
-both false b h = cc
-
 -- the item was there
 pub was-there : (me item : Rec) → may_take me item ≡ true → item.state ≡ 0
-was-there me item may = eqb-true item.state 0 (both (item.state == 0) (has_room_for me item.kind) may).0
+was-there me item may = eqb-true item.state 0 (and_parts (item.state == 0) (has_room_for me item.kind) may).0
 
 -- a player that has room has few things still
 pub few-with : (me item : Rec) → may_take me item ≡ true → HasFewThings me → HasFewThings (after_item me item)
-few-with me item may few = subst (λ (b : Bool). HasFewThings (if b then with_item me item.kind else me)) (sym may) (by item.kind (both (item.state == 0) (has_room_for me item.kind) may).1)
+few-with me item may few = subst (λ (b : Bool). HasFewThings (if b then with_item me item.kind else me)) (sym may) (by item.kind (and_parts (item.state == 0) (has_room_for me item.kind) may).1)
   where
     by : (k : Kind) → has_room_for me k ≡ true → HasFewThings (with_item me k)
     by Player room = cc

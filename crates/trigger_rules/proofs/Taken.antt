@@ -1,11 +1,10 @@
 -- The laws of the walk over what a player touches.
-use Rattle.std.proofs.Common.{◌≡◌, ◌≢◌, ◌⊎◌, ℕ, suc, ◌+◌, ◌<◌, ◌≤◌, Bool, true, false, cond, if◌then◌else◌, List, [], ◌∷◌, ◌++◌, length, filter, fold, All, Contains, slice_index, Option, Some, None, refl, sym, ap, ◌∙◌, subst, inl, inr, arith}
+use Rattle.std.proofs.Common.{◌≡◌, ℕ, suc, ◌+◌, ◌<◌, ◌≤◌, Bool, true, false, cond, if◌then◌else◌, List, [], ◌∷◌, ◌++◌, length, filter, fold, All, Contains, slice_index, Option, Some, None, refl, sym, ap, ◌∙◌, subst, inl, inr, arith}
 use Rattle.std.specs.Prelude.{map as map_list}
 use Rattle.std.specs.List.{AllByRecursion}
 use Rattle.std.specs.List.Sorted.{IsStrictlyIncreasing}
-use Rattle.std.proofs.lemmas.Bool.{cases_eq}
-use Rattle.std.proofs.lemmas.List.{get_or_append_left, get_or_push, length_push, map-append}
-use Rattle.std.proofs.lemmas.List.Elements.{All-contains_itself, All-filter, All-get_or, All-nil, All-push, All-weaker, filter_passes, recursion_from_All}
+use Rattle.std.proofs.lemmas.List.{length_push, map-append}
+use Rattle.std.proofs.lemmas.List.Elements.{All-contains_itself, All-filter, All-nil, All-push, All-weaker, filter_passes, recursion_from_All}
 use Rattle.arena_geo.specs.declared.vec3.Vec3.{Vec3}
 use Rattle.arena_geo.specs.Bounds.{Bounds}
 use Rattle.arena_geo.specs.Boxes.{is_blocked}
@@ -16,6 +15,7 @@ use Rattle.entity_recs.specs.declared.kind.Kind.TheVariants.{Player, Ammo, Gem, 
 use Rattle.entity_recs.specs.declared.rec.Rec.{Rec}
 use Rattle.entity_recs.specs.Records.{HasCorners}
 use Rattle.entity_recs.specs.Bodies.{abs_of, player_body, standing, is_touched}
+use Rattle.entity_recs.proofs.Ids.{rising_with}
 use Rattle.arena_map.specs.Maps.{MapView, dest_of}
 use Rattle.item_rules.specs.Items.{after_item}
 use Rattle.trigger_rules.specs.Touching.{touched_by, solids_among, Walk, walk_of, first_walk, new_state, scored, leapt, after_teleporter, after_kind, after_trigger, touched}
@@ -293,30 +293,6 @@ rises-from n (r ∷ rs) rise first = (first r rs refl, rises-from (r.id + 1) rs 
         subst (λ (l : List Rec). 0 + 1 < length (r.id ∷ map_list (λ t. t.id) l) → r.id < slice_index (r.id ∷ map_list (λ t. t.id) l) (0 + 1)) e (rise 0) (omega arith) in
         omega (arith, h)
 
--- one number more, above all that are there
-rising-push : (xs : List ℕ) (n : ℕ) → IsStrictlyIncreasing xs → All (λ x. x < n) xs → IsStrictlyIncreasing (xs ++ n ∷ [])
-rising-push xs n rise below k more = by (cases_eq (k + 1) (length xs))
-  where
-    long : length (xs ++ n ∷ []) ≡ length xs + 1
-    long = length_push xs n
-
-    at : (i : ℕ) → i < length xs → slice_index (xs ++ n ∷ []) i ≡ slice_index xs i
-    at i inside = get_or_append_left xs (n ∷ []) 0 i inside
-
-    by : (k + 1 ≡ length xs) ⊎ (k + 1 ≢ length xs) → slice_index (xs ++ n ∷ []) k < slice_index (xs ++ n ∷ []) (k + 1)
-    by (inl end) =
-        let inside : k < length xs = omega (arith, end) in
-        let first : slice_index (xs ++ n ∷ []) k ≡ slice_index xs k = at k inside in
-        let last : slice_index (xs ++ n ∷ []) (k + 1) ≡ n = get_or_push xs n 0 (k + 1) (sym end) in
-        let least : slice_index xs k < n = All-get_or (λ x. x < n) xs k 0 inside below in
-        omega (arith, first, last, least)
-    by (inr other) =
-        let inside : k + 1 < length xs = omega (arith, other, long, more) in
-        let first : slice_index (xs ++ n ∷ []) k ≡ slice_index xs k = at k (omega (arith, inside)) in
-        let last : slice_index (xs ++ n ∷ []) (k + 1) ≡ slice_index xs (k + 1) = at (k + 1) inside in
-        let less : slice_index xs k < slice_index xs (k + 1) = rise k inside in
-        omega (arith, first, last, less)
-
 -- the ids that were got rise, and are below a number
 pub record IsBelow (n : ℕ) (got : List ℕ) : Type 0 where
   pub rise : IsStrictlyIncreasing got
@@ -331,7 +307,7 @@ below-step map solids frame n w next r (inr (inl t)) low is =
     let here = below-more n r.id w.got low is in
     let more = below-more n (r.id + 1) w.got (omega (arith, low)) is in
     subst (λ (v : Walk). IsBelow (r.id + 1) v.got) (sym t.is)
-    (record { rise = rising-push w.got r.id is.rise here.below; below = All-push (λ g. g < r.id + 1) w.got r.id more.below (omega arith) })
+    (record { rise = rising_with w.got r.id is.rise here.below; below = All-push (λ g. g < r.id + 1) w.got r.id more.below (omega arith) })
 below-step map solids frame n w next r (inr (inr (inl goal))) low is = subst (λ (v : Walk). IsBelow (r.id + 1) v.got) (sym goal.is) (below-more n (r.id + 1) w.got (omega (arith, low)) is)
 below-step map solids frame n w next r (inr (inr (inr l))) low is = subst (λ (v : Walk). IsBelow (r.id + 1) v.got) (sym l.is) (below-more n (r.id + 1) w.got (omega (arith, low)) is)
 

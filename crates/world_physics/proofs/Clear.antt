@@ -2,8 +2,10 @@
 use Rattle.std.proofs.Common.{◌≡◌, ◌≢◌, ◌⊎◌, ℕ, ◌==◌, Bool, true, false, cond, ◌&&◌, ◌||◌, List, Option, Some, None, is_some, ℤ, ◌+ℤ◌, pos, int_lt, refl, sym, ap, ◌∙◌, subst, inl, inr, arith}
 use Rattle.std.proofs.lemmas.Int.{ints}
 use Rattle.std.proofs.lemmas.Option.{same_Some}
+use Rattle.std.proofs.lemmas.Bool.{or_parts}
 use Rattle.arena_geo.specs.Bounds.{Bounds}
 use Rattle.arena_geo.specs.Boxes.{overlaps_on, overlaps, moved, is_blocked}
+use Rattle.arena_geo.proofs.Overlaps.{overlaps-flips}
 use Rattle.entity_recs.specs.declared.kind.Kind.{Kind}
 use Rattle.entity_recs.specs.declared.kind.Kind.TheVariants as kinds
 use Rattle.entity_recs.specs.declared.rec.Rec.{Rec}
@@ -25,8 +27,8 @@ use Rattle.world_physics.proofs.Changes.{was_before}
 use Rattle.world_physics.proofs.Finding.{not_found}
 use Rattle.world_physics.proofs.Raised.{raised-body}
 use Rattle.world_physics.proofs.LiftRecords.{has_lift, IsLiftAt, IsStepAt}
-use Rattle.world_physics.proofs.Valid.{neither, returns_keep_valid, either_returned, has_way, clear_way, either_moved, at_lift}
-use Rattle.world_physics.proofs.Shafts.{AreApart, overlaps-flips, lifts_apart}
+use Rattle.world_physics.proofs.Valid.{returns_keep_valid, either_returned, has_way, clear_way, either_moved, at_lift}
+use Rattle.world_physics.proofs.Shafts.{AreApart, lifts_apart}
 use Rattle.world_physics.proofs.Through.{through}
 
 -- ---- boxes that move together
@@ -86,14 +88,14 @@ module _ (map : MapView) (records : List (Option Rec)) (id : ℕ) (step : LiftSt
   -- who is carried is apart from the lift's new box
   apart_from_lift : (k : ℕ) (r : Rec) → record_at records k ≡ Some r → is_carried step r ≡ true → AreApart (body_of (raised r step.up)) (body_of step.after)
   apart_from_lift k r at c =
-      ap (λ (b : Bounds). overlaps b (body_of step.after)) (raised-body r step.up) ∙ (neither _ _ (neither _ _ (has_way map step records k r free at c)).0).1
+      ap (λ (b : Bounds). overlaps b (body_of step.after)) (raised-body r step.up) ∙ (or_parts _ _ (or_parts _ _ (has_way map step records k r free at c)).0).1
 
   -- and from the solids that stay
   apart_from_left : (k j : ℕ) (r s : Rec) → record_at records k ≡ Some r → is_carried step r ≡ true → record_at records j ≡ Some s → is_solid s.kind ≡ true
       → (s.id == step.before.id) ≡ false → is_carried step s ≡ false → AreApart (body_of (raised r step.up)) (body_of s)
   apart_from_left k j r s at_k c at_j solid other stays_there =
       let body = moved (body_of r) (upwards step.up) in
-      let none = (neither _ _ (has_way map step records k r free at_k c)).1 in
+      let none = (or_parts _ _ (has_way map step records k r free at_k c)).1 in
       let it_stays : stays step s ≡ true = rw (solid, other, stays_there) refl in
       ap (λ (b : Bounds). overlaps b (body_of s)) (raised-body r step.up)
       ∙ sym (ap (λ b. b && overlaps body (body_of s)) it_stays)
@@ -104,7 +106,7 @@ module _ (map : MapView) (records : List (Option Rec)) (id : ℕ) (step : LiftSt
   lift_from_left j s at solid differ stays_there = elim (is_solid_kind s.kind solid) [
     | inl player ↦
         let here : is_player s.kind ≡ true = ap is_player player in
-        (neither (stands_on step.before s) (overlaps (body_of s) (body_of step.after))
+        (or_parts (stands_on step.before s) (overlaps (body_of s) (body_of step.after))
         (sym (ap (λ b. b && (stands_on step.before s || overlaps (body_of s) (body_of step.after))) here) ∙ stays_there)).1
     | inr lift ↦
         let its = lift_there (lift_of map j) ((live_records_have_data map records j s is_map valid at).2 ∙ ap is_lift lift) in

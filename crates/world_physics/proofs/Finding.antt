@@ -1,9 +1,9 @@
 -- Tests of all live records, one place after another.
-use Rattle.std.specs.Prelude.{◌≡◌, ℕ, zero, suc, ◌+◌, ◌<◌, ◌≤◌, Bool, true, false, ◌||◌, List, [], ◌∷◌, Option, Some, None}
+use Rattle.std.specs.Prelude.{◌≡◌, ℕ, zero, suc, ◌+◌, ◌<◌, ◌≤◌, Bool, true, false, ◌||◌, List, ◌∷◌, Option, Some, None}
 use Rattle.std.specs.List.{list_any}
 use Rattle.std.specs.Option.{option_map_or}
-use Rattle.std.proofs.Common.{refl, sym, ap, ◌∙◌, inl, inr, arith}
-use Rattle.std.proofs.lemmas.Bool.{cases_Bool, cases_eq, cases_lt}
+use Rattle.std.proofs.Common.{refl, sym, ap, ◌∙◌, inl, inr, arith, []}
+use Rattle.std.proofs.lemmas.Bool.{cases_Bool, cases_eq, cases_lt, or_right}
 use Rattle.std.proofs.lemmas.Option.{none-some, same_Some}
 use Rattle.entity_recs.specs.declared.rec.Rec.{Rec}
 use Rattle.entity_recs.specs.declared.kind.Kind.{Kind}
@@ -13,17 +13,13 @@ use Rattle.world_tree.specs.Live.{record_at, live_in, IsEntry}
 use Rattle.world_physics.specs.declared.lift_step.LiftStep.{LiftStep}
 use Rattle.world_physics.specs.LiftSteps.{is_player, is_carried}
 
-or_true : (a b : Bool) → b ≡ true → (a || b) ≡ true
-or_true true b h = refl
-or_true false b h = h
-
 -- a live record that passes is found
 pub found : (p : Rec → Bool) (records : List (Option Rec)) (id : ℕ) (r : Rec) → record_at records id ≡ Some r → p r ≡ true → list_any p (live_in records) ≡ true
 found p [] id r at passes = absurd (none-some r at)
 found p (None ∷ records) zero r at passes = absurd (none-some r at)
 found p (None ∷ records) (suc id) r at passes = found p records id r at passes
 found p (Some x ∷ records) zero r at passes = ap (λ b. b || list_any p (live_in records)) (ap p (same_Some x r at) ∙ passes)
-found p (Some x ∷ records) (suc id) r at passes = or_true (p x) (list_any p (live_in records)) (found p records id r at passes)
+found p (Some x ∷ records) (suc id) r at passes = or_right (p x) (list_any p (live_in records)) (found p records id r at passes)
 
 -- where no live record passes, none is found
 pub none_found : (p : Rec → Bool) (records : List (Option Rec)) → ((id : ℕ) (r : Rec) → record_at records id ≡ Some r → p r ≡ false) → list_any p (live_in records) ≡ false
@@ -73,7 +69,7 @@ none_at_last p id records is past =
 
 -- ---- players
 
-kind_past : (kind : Kind) (id : ℕ) → IsIdOf kind id → 64 ≤ id → is_player kind ≡ false
+pub kind_past : (kind : Kind) (id : ℕ) → IsIdOf kind id → 64 ≤ id → is_player kind ≡ false
 kind_past kinds.Player id is past = absurd (omega (arith, is, past))
 kind_past kinds.Ammo id is past = refl
 kind_past kinds.Gem id is past = refl

@@ -2,7 +2,7 @@
 use Rattle.std.proofs.Common.{◌≡◌, ◌≢◌, ℕ, zero, suc, ◌==◌, Bool, true, false, not, cond, ◌&&◌, ◌||◌, ◌-ℤ◌, List, [], ◌∷◌, Option, Some, None, refl, sym, ap, ◌∙◌, subst, inl, inr, arith}
 use Rattle.std.specs.List.{list_any}
 use Rattle.std.specs.Option.{option_map}
-use Rattle.std.proofs.lemmas.Bool.{cases_Bool, or_cases}
+use Rattle.std.proofs.lemmas.Bool.{cases_Bool, or_cases, and_from, or_left, or_right, and_parts, not-true}
 use Rattle.std.proofs.lemmas.Bool.Decides.{nat_tests}
 use Rattle.std.proofs.lemmas.Option.{same_Some}
 use Rattle.arena_geo.specs.Bounds.{Bounds}
@@ -16,7 +16,6 @@ use Rattle.arena_map.specs.declared.lift.Lift.{Lift}
 use Rattle.arena_map.specs.Places.{upwards}
 use Rattle.arena_map.specs.Maps.{MapView, IsMap, entities_of, lift_of, solids_of}
 use Rattle.arena_map.specs.Validity.{IsValidWorld}
-use Rattle.arena_map.proofs.Boxes.{both_parts}
 use Rattle.world_tree.specs.Live.{record_at, live_in}
 use Rattle.world_physics.specs.Returns.{each_changed, returned, after_returns}
 use Rattle.world_physics.specs.LiftSteps.{is_player, carried_along, is_carried, stays, is_in_the_way, is_obstructed, is_pressed, is_stopped, raised, distance_up, lift_after, moved_along, step_of, after_step}
@@ -34,22 +33,6 @@ use Rattle.world_physics.proofs.OwnSteps.{is_at, lift_returned}
 use Rattle.world_physics.proofs.Riders.{tick-is, by_as_much, carried-goes, made, lift_made, becomes, apart_ids}
 
 -- ---- tests
-
-first_true : (a b : Bool) → a ≡ true → (a || b) ≡ true
-first_true true b h = refl
-first_true false b h = cc
-
-second_true : (a b : Bool) → b ≡ true → (a || b) ≡ true
-second_true true b h = refl
-second_true false b h = h
-
-both_true : (a b : Bool) → a ≡ true → b ≡ true → (a && b) ≡ true
-both_true true b h k = k
-both_true false b h k = cc
-
-not_true : (b : Bool) → not b ≡ true → b ≡ false
-not_true true h = cc
-not_true false h = refl
 
 -- a live record that passes
 record IsFound (p : Rec → Bool) (records : List (Option Rec)) : Type 0 where
@@ -139,16 +122,16 @@ module _ (map : MapView) (id : ℕ) (lift : Lift) (records : List (Option Rec)) 
   meets_of : (body : Bounds) → IsFound (is_in_the_way (step_of lift old) body) records → MeetsOther records id lift old body
   unfolding step_of
   meets_of body f =
-      let both = both_parts (stays (step_of lift old) f.r) (overlaps body (body_of f.r)) f.passes in
-      let outer = both_parts (is_solid f.r.kind && not (f.r.id == old.id)) (not (is_carried (step_of lift old) f.r)) both.0 in
-      let inner = both_parts (is_solid f.r.kind) (not (f.r.id == old.id)) outer.0 in
+      let both = and_parts (stays (step_of lift old) f.r) (overlaps body (body_of f.r)) f.passes in
+      let outer = and_parts (is_solid f.r.kind && not (f.r.id == old.id)) (not (is_carried (step_of lift old) f.r)) both.0 in
+      let inner = and_parts (is_solid f.r.kind) (not (f.r.id == old.id)) outer.0 in
       record {
         place = f.id;
         other = f.r;
         at = f.at;
-        apart = λ same. let here = same_place f.id f.r f.at same in let apart = not_true (f.r.id == old.id) inner.1 in cc;
+        apart = λ same. let here = same_place f.id f.r f.at same in let apart = not-true (f.r.id == old.id) inner.1 in cc;
         solid = inner.0;
-        left = λ kind. sym (carried-goes lift old f.r kind) ∙ not_true (is_carried (step_of lift old) f.r) outer.1;
+        left = λ kind. sym (carried-goes lift old f.r kind) ∙ not-true (is_carried (step_of lift old) f.r) outer.1;
         meets = both.1;
       }
 
@@ -168,7 +151,7 @@ module _ (map : MapView) (id : ℕ) (lift : Lift) (records : List (Option Rec)) 
   unfolding is_stopped step_of
   held_of stopped =
       let f = is_found (is_pressed map (step_of lift old) records) records stopped in
-      let parts = both_parts (is_carried (step_of lift old) f.r) (is_obstructed map (step_of lift old) records (moved (body_of f.r) (upwards (distance_up lift old)))) f.passes in
+      let parts = and_parts (is_carried (step_of lift old) f.r) (is_obstructed map (step_of lift old) records (moved (body_of f.r) (upwards (distance_up lift old)))) f.passes in
       let kind = carried_is_player (step_of lift old) f.r parts.0 in
       let P : Bounds → Type 0 = HasNoRoom map records id lift old in
       record {
@@ -195,20 +178,20 @@ module _ (map : MapView) (id : ℕ) (lift : Lift) (records : List (Option Rec)) 
       let apart = other_place m.place m.other m.at m.apart in
       let left = not_carried m.other m.solid m.left in
       found (is_in_the_way (step_of lift old) body) records m.place m.other m.at
-      (both_true (stays (step_of lift old) m.other) (overlaps body (body_of m.other)) (both_true _ _ (both_true _ _ m.solid (ap not apart)) (ap not left)) m.meets)
+      (and_from (stays (step_of lift old) m.other) (overlaps body (body_of m.other)) (and_from _ _ (and_from _ _ m.solid (ap not apart)) (ap not left)) m.meets)
 
   obstructed_of : (body : Bounds) → HasNoRoom map records id lift old body → is_obstructed map (step_of lift old) records body ≡ true
   unfolding step_of
-  obstructed_of body (inl solid) = first_true _ _ (first_true _ _ solid)
-  obstructed_of body (inr (inl box)) = first_true _ _ (second_true (is_blocked body (solids_of map)) (overlaps body (body_of (lift_after lift old))) box)
-  obstructed_of body (inr (inr m)) = second_true (is_blocked body (solids_of map) || overlaps body (body_of (lift_after lift old))) _ (way_of body m)
+  obstructed_of body (inl solid) = or_left _ _ (or_left _ _ solid)
+  obstructed_of body (inr (inl box)) = or_left _ _ (or_right (is_blocked body (solids_of map)) (overlaps body (body_of (lift_after lift old))) box)
+  obstructed_of body (inr (inr m)) = or_right (is_blocked body (solids_of map) || overlaps body (body_of (lift_after lift old))) _ (way_of body m)
 
   stopped_of : IsHeld map records id lift old → is_stopped map (step_of lift old) records ≡ true
   unfolding is_stopped step_of
   stopped_of h =
       let P : Bounds → Type 0 = HasNoRoom map records id lift old in
       found (is_pressed map (step_of lift old) records) records h.slot h.player h.at
-      (both_true (is_carried (step_of lift old) h.player) _ (carried-goes lift old h.player h.is_player ∙ h.goes)
+      (and_from (is_carried (step_of lift old) h.player) _ (carried-goes lift old h.player h.is_player ∙ h.goes)
       (obstructed_of (moved (body_of h.player) (upwards (distance_up lift old))) (subst P (carried_body lift old h.player) h.no_room)))
 
   -- ---- the step

@@ -11,6 +11,7 @@ use Rattle.entity_recs.specs.declared.kind.Kind.TheVariants as kinds
 use Rattle.entity_recs.specs.declared.rec.Rec.{Rec}
 use Rattle.entity_recs.specs.Bodies.{body_of}
 use Rattle.entity_recs.specs.Kinds.{is_item}
+use Rattle.entity_recs.proofs.Ids.{no_record}
 use Rattle.arena_map.specs.declared.lift.Lift.{Lift}
 use Rattle.arena_map.specs.declared.map_line.MapLine.{MapLine}
 use Rattle.arena_map.specs.MapLines.{is_thing_line}
@@ -41,13 +42,9 @@ use Rattle.world_physics.proofs.Kept.{same_ids_changed, same_ids_lift}
 abbrev pub AreAlone : List (Option Rec) → Type 0
 AreAlone records = (slot : ℕ) → slot < 64 → record_at records slot ≡ None
 
-none_there : (o : Option Rec) → is_some o ≡ false → o ≡ None
-none_there None h = refl
-none_there (Some r) h = cc
-
 -- so it is where the same ids are live
 still_alone : (old new : List (Option Rec)) → HaveSameIds old new → AreAlone old → AreAlone new
-still_alone old new same alone slot below = none_there (record_at new slot) (same.live slot ∙ ap is_some (alone slot below))
+still_alone old new same alone slot below = no_record (record_at new slot) (same.live slot ∙ ap is_some (alone slot below))
 
 -- a step that carries nobody isn't stopped
 free_alone : (map : MapView) (records : List (Option Rec)) (step : LiftStep) → IsValidWorld map records → AreAlone records → is_stopped map step records ≡ false

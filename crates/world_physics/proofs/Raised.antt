@@ -12,9 +12,10 @@ use Rattle.box_trace.specs.Walls.{low, high, with_x, with_y, with_z, walls_of}
 use Rattle.entity_recs.specs.declared.kind.Kind.{Kind}
 use Rattle.entity_recs.specs.declared.kind.Kind.TheVariants.{Player}
 use Rattle.entity_recs.specs.declared.rec.Rec.{Rec}
-use Rattle.entity_recs.specs.Records.{IsRecord, IsShapeOf}
+use Rattle.entity_recs.specs.Records.{IsShapeOf}
 use Rattle.entity_recs.specs.Bodies.{body_of}
 use Rattle.entity_recs.proofs.Standing.{shape_is_roomy}
+use Rattle.entity_recs.proofs.Ids.{player_shape}
 use Rattle.arena_map.specs.Places.{upwards}
 use Rattle.arena_map.specs.Maps.{MapView, IsMap, solids_of}
 use Rattle.arena_map.specs.Validity.{IsValidRecord}
@@ -123,9 +124,6 @@ still_inside arena body up blocks inside ordered far free =
 near_on : (lo hi at mins maxs : ℤ) → unsigned_abs lo ≤ 1048576 → unsigned_abs hi ≤ 1048576 → mins ≡ neg_ℤ (pos 6144) → maxs ≡ pos 8192
     → contains_on lo hi (at +ℤ mins) (at +ℤ maxs) ≡ true → unsigned_abs at ≤ 1048576
 near_on lo hi at mins maxs near_lo near_hi m n inside = grind (arith, ints)
-
-player_shape : (r : Rec) → IsRecord r → r.kind ≡ Player → IsShapeOf Player r.origin r.mins r.maxs
-player_shape r is kind = let Q : Kind → Type 0 = λ k. IsShapeOf k r.origin r.mins r.maxs in subst Q kind is.shape
 
 -- the record of a player, raised so that no wall and no block stops it, is valid
 pub raised_is_valid : (map : MapView) (id : ℕ) (r : Rec) (up : ℤ) → IsMap map → IsValidRecord map id r → r.kind ≡ Player → unsigned_abs up ≤ 2560

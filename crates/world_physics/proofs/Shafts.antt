@@ -5,12 +5,11 @@ use Rattle.std.proofs.lemmas.Bool.{cases_Bool, cases_lt, both_ways}
 use Rattle.std.proofs.lemmas.Int.{ints}
 use Rattle.std.proofs.lemmas.Option.{none-some, same_Some}
 use Rattle.std.proofs.lemmas.List.Elements.{All-head, All-tail}
-use Rattle.std.proofs.Math.Bool.{and_comm}
-use Rattle.std.specs.Prelude.{int_lt}
 use Rattle.arena_geo.specs.declared.vec3.Vec3.{Vec3}
 use Rattle.arena_geo.specs.Bounds.{Bounds}
 use Rattle.arena_geo.specs.Boxes.{contains_on, contains, overlaps_on, overlaps}
 use Rattle.arena_geo.proofs.Containment.{ThreePass, three_pass, all_three}
+use Rattle.arena_geo.proofs.Overlaps.{overlaps-flips}
 use Rattle.entity_recs.specs.declared.rec.Rec.{Rec}
 use Rattle.entity_recs.specs.Bodies.{body_of}
 use Rattle.arena_map.specs.declared.lift.Lift as lifts
@@ -30,12 +29,12 @@ use Rattle.world_physics.proofs.LiftRecords.{IsLiftAt}
 abbrev pub AreApart : Bounds → Bounds → Type 0
 AreApart one other = overlaps one other ≡ false
 
-rest_all : (P : Bounds → Type 0) (first : Option Bounds) (rest : List Bounds) → All P (cons_option first rest) → All P rest
+pub rest_all : (P : Bounds → Type 0) (first : Option Bounds) (rest : List Bounds) → All P (cons_option first rest) → All P rest
 rest_all P None rest all = all
 rest_all P (Some x) rest all = All-tail P x rest all
 
 -- what holds of all shafts holds of that of a line
-shaft_has : (P : Bounds → Type 0) (things : List MapLine) (j : ℕ) (line : MapLine) (own : Bounds) → All P (filter_map shaft_of things) → slice_get things j ≡ Some line
+pub shaft_has : (P : Bounds → Type 0) (things : List MapLine) (j : ℕ) (line : MapLine) (own : Bounds) → All P (filter_map shaft_of things) → slice_get things j ≡ Some line
     → shaft_of line ≡ Some own → P own
 shaft_has P [] j line own all at is = absurd (none-some line at)
 shaft_has P (x ∷ things) zero line own all at is =
@@ -43,12 +42,12 @@ shaft_has P (x ∷ things) zero line own all at is =
     All-head P own (filter_map shaft_of things) (subst Q (ap shaft_of (same_Some x line at) ∙ is) all)
 shaft_has P (x ∷ things) (suc j) line own all at is = shaft_has P things j line own (rest_all P (shaft_of x) (filter_map shaft_of things) all) at is
 
-rest_apart : (first : Option Bounds) (rest : List Bounds) → AllPairs AreApart (cons_option first rest) → AllPairs AreApart rest
+pub rest_apart : (first : Option Bounds) (rest : List Bounds) → AllPairs AreApart (cons_option first rest) → AllPairs AreApart rest
 rest_apart None rest apart = apart
 rest_apart (Some x) rest apart = λ i j d before within. apart (suc i) (suc j) d (omega (arith, before)) (omega (arith, within))
 
 -- the shafts of two lines, one after the other, are apart
-shafts_apart : (things : List MapLine) (i j : ℕ) (line later : MapLine) (own other : Bounds) → AllPairs AreApart (filter_map shaft_of things)
+pub shafts_apart : (things : List MapLine) (i j : ℕ) (line later : MapLine) (own other : Bounds) → AllPairs AreApart (filter_map shaft_of things)
     → slice_get things i ≡ Some line → slice_get things j ≡ Some later → i < j → shaft_of line ≡ Some own → shaft_of later ≡ Some other → AreApart own other
 shafts_apart [] i j line later own other apart at_i at_j before is there = absurd (none-some line at_i)
 shafts_apart (x ∷ things) i zero line later own other apart at_i at_j before is there = absurd (omega (arith, before))
@@ -61,7 +60,7 @@ shafts_apart (x ∷ things) (suc i) (suc j) line later own other apart at_i at_j
 
 -- ---- boxes inside boxes that are apart
 
-overlap_out : (lo hi l h low high lower higher : ℤ) → contains_on lo hi low high ≡ true → contains_on l h lower higher ≡ true → overlaps_on low high lower higher ≡ true
+pub overlap_out : (lo hi l h low high lower higher : ℤ) → contains_on lo hi low high ≡ true → contains_on l h lower higher ≡ true → overlaps_on low high lower higher ≡ true
     → overlaps_on lo hi l h ≡ true
 overlap_out lo hi l h low high lower higher one other both = grind (arith, ints)
 
@@ -71,7 +70,7 @@ pub overlap_parts : (a b : Bounds) → overlaps a b ≡ true
 overlap_parts a b h = three_pass (overlaps_on a.lo.x a.hi.x b.lo.x b.hi.x) (overlaps_on a.lo.y a.hi.y b.lo.y b.hi.y) (overlaps_on a.lo.z a.hi.z b.lo.z b.hi.z) h
 
 -- boxes inside boxes that don't overlap don't overlap
-apart_inside : (a b one other : Bounds) → contains a one ≡ true → contains b other ≡ true → AreApart a b → AreApart one other
+pub apart_inside : (a b one other : Bounds) → contains a one ≡ true → contains b other ≡ true → AreApart a b → AreApart one other
 apart_inside a b one other in_a in_b apart = elim (cases_Bool (overlaps one other)) [
   | inl both ↦
       let s = inside_parts a one in_a in
@@ -83,13 +82,6 @@ apart_inside a b one other in_a in_b apart = elim (cases_Bool (overlaps one othe
       (overlap_out a.lo.z a.hi.z b.lo.z b.hi.z one.lo.z one.hi.z other.lo.z other.hi.z s.z t.z u.z)))
   | inr none ↦ none
 ]
-
-pub overlaps-flips : (a b : Bounds) → overlaps a b ≡ overlaps b a
-overlaps-flips a b =
-    let x = and_comm (int_lt a.lo.x b.hi.x) (int_lt b.lo.x a.hi.x) in
-    let y = and_comm (int_lt a.lo.y b.hi.y) (int_lt b.lo.y a.hi.y) in
-    let z = and_comm (int_lt a.lo.z b.hi.z) (int_lt b.lo.z a.hi.z) in
-    rw (x, y, z) refl
 
 -- ---- a lift in its shaft
 

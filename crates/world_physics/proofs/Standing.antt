@@ -1,11 +1,12 @@
 -- Which players stand on a lift.
-use Rattle.std.proofs.Common.{◌≡◌, ℤ, pos, neg_ℤ, ◌+ℤ◌, ◌-ℤ◌, ◌<ℤ◌, ◌≤ℤ◌, Bool, true, false, ◌&&◌, refl, sym, ◌∙◌, arith}
+use Rattle.std.proofs.Common.{◌≡◌, ℤ, pos, neg_ℤ, ◌+ℤ◌, ◌-ℤ◌, ◌<ℤ◌, ◌≤ℤ◌, true, false, sym, ◌∙◌, arith}
 use Rattle.std.proofs.lemmas.Int.{ints}
 use Rattle.arena_geo.specs.declared.vec3.Vec3.{Vec3}
 use Rattle.arena_geo.specs.Vectors.{zero_vector}
 use Rattle.arena_geo.specs.Bounds.{Bounds}
 use Rattle.arena_geo.specs.Boxes.{overlaps_on, overlaps, moved}
 use Rattle.arena_geo.proofs.Containment.{three_pass, all_three}
+use Rattle.arena_geo.proofs.Overlaps.{overlaps_on-stays, third_fails}
 use Rattle.entity_recs.specs.declared.kind.Kind.{Kind}
 use Rattle.entity_recs.specs.declared.kind.Kind.TheVariants as kinds
 use Rattle.entity_recs.specs.declared.rec.Rec.{Rec}
@@ -59,17 +60,6 @@ level_of : (at lo size : ℤ) → overlaps_on (at +ℤ neg_ℤ (pos 6144)) (at +
     → at ≤ℤ (lo +ℤ size +ℤ pos 6144) → (lo +ℤ pos 1) <ℤ (at +ℤ pos 8192) → at ≡ lo +ℤ size +ℤ pos 6144
 level_of at lo size apart bottom top = grind (arith, ints)
 
-same_axis : (lo hi l h : ℤ) → overlaps_on (lo +ℤ pos 0) (hi +ℤ pos 0) l h ≡ overlaps_on lo hi l h
-same_axis lo hi l h =
-    let low : lo +ℤ pos 0 ≡ lo = omega (arith, ints) in
-    let high : hi +ℤ pos 0 ≡ hi = omega (arith, ints) in
-    rw (low, high) refl
-
-third_fails : (a b c : Bool) → (a && b && c) ≡ false → a ≡ true → b ≡ true → c ≡ false
-third_fails true true c h p q = h
-third_fails true false c h p q = cc
-third_fails false b c h p q = cc
-
 -- ---- bodies with these corners
 
 -- a player's body at this origin
@@ -108,8 +98,8 @@ apart_level : (at lo size : Vec3) → overlaps (body_at at) (lift_at lo size) �
 apart_level at lo size apart h =
     let t = three_pass _ _ _ h in
     let z = down_of at.z lo.z size.z t.z in
-    let x_on = sym (same_axis (at.x +ℤ neg_ℤ (pos 4096)) (at.x +ℤ pos 4096) (lo.x +ℤ pos 0) (lo.x +ℤ size.x)) ∙ t.x in
-    let y_on = sym (same_axis (at.y +ℤ neg_ℤ (pos 4096)) (at.y +ℤ pos 4096) (lo.y +ℤ pos 0) (lo.y +ℤ size.y)) ∙ t.y in
+    let x_on = sym (overlaps_on-stays (at.x +ℤ neg_ℤ (pos 4096)) (at.x +ℤ pos 4096) (lo.x +ℤ pos 0) (lo.x +ℤ size.x)) ∙ t.x in
+    let y_on = sym (overlaps_on-stays (at.y +ℤ neg_ℤ (pos 4096)) (at.y +ℤ pos 4096) (lo.y +ℤ pos 0) (lo.y +ℤ size.y)) ∙ t.y in
     level_of at.z lo.z size.z (third_fails _ _ _ apart x_on y_on) z.0 z.1
 
 -- ---- records

@@ -1,16 +1,17 @@
 -- The step of a lift, from what the code does one after another.
-use Rattle.std.proofs.Common.{◌≡◌, ◌≢◌, ℕ, zero, suc, ◌<◌, ◌==◌, true, false, cond, List, [], ◌∷◌, length, Option, Some, None, IsSome, is_some, slice_set, refl, sym, ap, ◌∙◌, subst, inl, inr, arith, get_or-set_same, get_or-set_other}
+use Rattle.std.proofs.Common.{◌≡◌, ◌≢◌, ℕ, ◌==◌, true, false, cond, List, Option, Some, None, IsSome, is_some, slice_set, refl, sym, ap, ◌∙◌, subst, inl, inr, arith, get_or-set_same, get_or-set_other}
 use Rattle.std.specs.Option.{option_map}
 use Rattle.std.proofs.lemmas.Bool.{cases_eq}
 use Rattle.std.proofs.lemmas.Bool.Decides.{nat_tests}
 use Rattle.std.proofs.lemmas.List.{same_lists, get_or_default, length-set}
-use Rattle.std.proofs.lemmas.Option.{none-some, same_Some}
+use Rattle.std.proofs.lemmas.Option.{same_Some}
 use Rattle.entity_recs.specs.declared.rec.Rec.{Rec}
 use Rattle.arena_map.specs.declared.lift.Lift.{Lift}
 use Rattle.arena_map.specs.Maps.{MapView, IsMap, lift_of}
 use Rattle.arena_map.specs.Validity.{IsValidWorld}
 use Rattle.world_tree.specs.Live.{record_at}
 use Rattle.world_tree.specs.Worlds.{WorldView, with_record, without_id}
+use Rattle.world_tree.proofs.LiveRecords.{live_below}
 use Rattle.world_physics.specs.declared.lift_step.LiftStep.{LiftStep}
 use Rattle.world_physics.specs.Returns.{each_changed}
 use Rattle.world_physics.specs.LiftSteps.{IsOnItsWay, step_of, is_stopped, carried_along, moved_along, after_step}
@@ -18,12 +19,6 @@ use Rattle.world_physics.specs.Ticks.{after_lift}
 use Rattle.world_physics.proofs.Changes.{at-changed, length-changed, relinked}
 use Rattle.world_physics.proofs.LiftRecords.{IsStepAt, has_lift, on_its_way}
 use Rattle.world_physics.proofs.Valid.{step_keeps_valid}
-
--- a live id is one of the places
-pub live_below : (records : List (Option Rec)) (id : ℕ) (r : Rec) → record_at records id ≡ Some r → id < length records
-live_below [] id r at = absurd (none-some r at)
-live_below (x ∷ records) zero r at = omega arith
-live_below (x ∷ records) (suc id) r at = let rest = live_below records id r at in omega (arith, rest)
 
 -- the live record of a lift is on its way
 pub way_at : (map : MapView) (records : List (Option Rec)) (id : ℕ) (lift : Lift) (r : Rec) → IsMap map → IsValidWorld map records → lift_of map id ≡ Some lift

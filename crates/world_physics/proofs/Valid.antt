@@ -4,6 +4,7 @@ use Rattle.std.specs.List.{find}
 use Rattle.std.specs.Option.{option_map}
 use Rattle.std.proofs.lemmas.Bool.Decides.{nat_tests}
 use Rattle.std.proofs.lemmas.Option.{same_Some}
+use Rattle.std.proofs.lemmas.Bool.{and_parts, or_parts}
 use Rattle.arena_geo.specs.Boxes.{overlaps, moved, is_blocked}
 use Rattle.entity_recs.specs.declared.kind.Kind.{Kind}
 use Rattle.entity_recs.specs.declared.kind.Kind.TheVariants as kinds
@@ -15,7 +16,6 @@ use Rattle.arena_map.specs.declared.lift.Lift.{Lift}
 use Rattle.arena_map.specs.Places.{upwards}
 use Rattle.arena_map.specs.Maps.{MapView, IsMap, entities_of, lift_of, solids_of}
 use Rattle.arena_map.specs.Validity.{IsSameLift, IsAsItsLine, IsThing, IsStateOn, IsValidRecord, IsValidWorld}
-use Rattle.arena_map.proofs.Boxes.{both_parts}
 use Rattle.world_tree.specs.Live.{record_at}
 use Rattle.world_physics.specs.declared.lift_step.LiftStep.{LiftStep}
 use Rattle.world_physics.specs.Returns.{each_changed, is_due, returned, after_returns}
@@ -110,15 +110,11 @@ player_kind kinds.Lift h = cc
 
 -- who is carried is a player
 pub carried_is_player : (step : LiftStep) (r : Rec) → is_carried step r ≡ true → r.kind ≡ kinds.Player
-carried_is_player step r carried = player_kind r.kind (both_parts (is_player r.kind) (stands_on step.before r || overlaps (body_of r) (body_of step.after)) carried).0
+carried_is_player step r carried = player_kind r.kind (and_parts (is_player r.kind) (stands_on step.before r || overlaps (body_of r) (body_of step.after)) carried).0
 
 not_both : (a b : Bool) → (a && b) ≡ false → a ≡ true → b ≡ false
 not_both true b h a = h
 not_both false b h a = cc
-
-pub neither : (a b : Bool) → (a || b) ≡ false → (a ≡ false) × (b ≡ false)
-neither false b h = (refl, h)
-neither true b h = cc
 
 -- where the step isn't stopped, the body of who is carried isn't obstructed where it gets to
 pub has_way : (map : MapView) (step : LiftStep) (records : List (Option Rec)) (id : ℕ) (r : Rec) → is_stopped map step records ≡ false → record_at records id ≡ Some r
@@ -128,7 +124,7 @@ has_way map step records id r free at carried = not_both _ _ (not_found (is_pres
 
 -- so no wall and no block stops it
 pub clear_way : (map : MapView) (step : LiftStep) (records : List (Option Rec)) (body : _) → is_obstructed map step records body ≡ false → is_blocked body (solids_of map) ≡ false
-clear_way map step records body free = (neither _ _ (neither _ _ free).0).0
+clear_way map step records body free = (or_parts _ _ (or_parts _ _ free).0).0
 
 kind_of_thing : (kind : Kind) (id : ℕ) → IsIdOf kind id → 64 ≤ id → kind ≡ kinds.Player → ⊥
 kind_of_thing kind id own past is = let P : Kind → Type 0 = λ k. IsIdOf k id in let below = subst P is own in omega (arith, below, past)

@@ -54,9 +54,6 @@ next_height_is lift false height is =
 
 -- ---- places
 
-place_is : (at low next : ℤ) → at +ℤ (next -ℤ (at -ℤ low)) ≡ low +ℤ next
-place_is at low next = omega (arith, ints)
-
 least_place : (at low next speed : ℤ) → ((at -ℤ low) -ℤ speed) ≤ℤ next → (at -ℤ speed) ≤ℤ (at +ℤ (next -ℤ (at -ℤ low)))
 least_place at low next speed h = omega (arith, ints)
 

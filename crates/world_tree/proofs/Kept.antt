@@ -2,8 +2,7 @@
 use Rattle.std.proofs.Common.{◌≡◌, ℕ, zero, suc, ◌+◌, ◌<◌, ◌≤◌, true, false, nat_lt, if◌then◌else◌, List, [], ◌∷◌, length, replicate, Option, Some, None, IsSome, slice_set, zero-add, sym, refl, ap, ◌∙◌, subst, arith}
 use Rattle.std.specs.List.{insert, remove}
 use Rattle.std.specs.Option.{option_map}
-use Rattle.std.proofs.lemmas.Bool.{false≢true}
-use Rattle.std.proofs.lemmas.Bool.Decides.{nat_tests}
+use Rattle.std.proofs.lemmas.Bool.{false≢true, lt-ltb, le-ltb}
 use Rattle.std.proofs.lemmas.List.{map-set, set-set}
 use Rattle.std.proofs.lemmas.Option.{none-some, same_Some}
 use Rattle.arena_geo.specs.Bounds.{Bounds}
@@ -26,22 +25,16 @@ HaveIdsFrom start records = (i : ℕ) (r : Rec) → record_at records i ≡ Some
 later : (start : ℕ) (place : Option Rec) (records : List (Option Rec)) → HaveIdsFrom start (place ∷ records) → HaveIdsFrom (start + 1) records
 later start place records own i r at = own (suc i) r at ∙ omega arith
 
-is-less : (a b : ℕ) → a < b → nat_lt a b ≡ true
-is-less a b less = grind (arith, nat_tests)
-
-is-not-less : (a b : ℕ) → b ≤ a → nat_lt a b ≡ false
-is-not-less a b not_less = grind (arith, nat_tests)
-
 -- an id that is below all others comes first
 first-place : (low id : ℕ) (ids : List ℕ) → RisesFrom low ids → id ≤ low → place_in ids id ≡ 0
 first-place low id [] rises below = refl
 first-place low id (x ∷ ids) rises below =
-    let t : nat_lt x id ≡ false = is-not-less x id (omega (arith, rises.0)) in
+    let t : nat_lt x id ≡ false = le-ltb x id (omega (arith, rises.0)) in
     rw t refl
 
 -- an id after the first comes after it
 next-place : (id x : ℕ) (ids : List ℕ) → x < id → place_in (x ∷ ids) id ≡ suc (place_in ids id)
-next-place id x ids after = let t : nat_lt x id ≡ true = is-less x id after in rw t refl
+next-place id x ids after = let t : nat_lt x id ≡ true = lt-ltb x id after in rw t refl
 
 -- there are no more live ids than places
 pub few_live : (records : List (Option Rec)) → length (ids_of records) ≤ length records
@@ -79,7 +72,7 @@ place-within : (start : ℕ) (records : List (Option Rec)) (i : ℕ) (r : Rec) �
 place-within start [] i r own at = absurd (none-some r at)
 place-within start (None ∷ records) zero r own at = absurd (none-some r at)
 place-within start (Some x ∷ records) zero r own at =
-    let t : nat_lt x.id (start + 0) ≡ false = is-not-less x.id (start + 0) (omega (arith, own 0 x refl)) in
+    let t : nat_lt x.id (start + 0) ≡ false = le-ltb x.id (start + 0) (omega (arith, own 0 x refl)) in
     rw t (omega arith)
 place-within start (None ∷ records) (suc i) r own at =
     let same : start + 1 + i ≡ start + suc i = omega arith in
@@ -96,7 +89,7 @@ ids-taken : (start : ℕ) (records : List (Option Rec)) (i : ℕ) (r : Rec) → 
 ids-taken start [] i r own at = absurd (none-some r at)
 ids-taken start (None ∷ records) zero r own at = absurd (none-some r at)
 ids-taken start (Some x ∷ records) zero r own at =
-    let t : nat_lt x.id (start + 0) ≡ false = is-not-less x.id (start + 0) (omega (arith, own 0 x refl)) in
+    let t : nat_lt x.id (start + 0) ≡ false = le-ltb x.id (start + 0) (omega (arith, own 0 x refl)) in
     rw t refl
 ids-taken start (None ∷ records) (suc i) r own at =
     let same : start + 1 + i ≡ start + suc i = omega arith in
@@ -110,7 +103,7 @@ ids-taken start (Some x ∷ records) (suc i) r own at =
     ∙ ap (λ k. remove (x.id ∷ ids_of records) k) (sym next)
 
 -- a record put in place of one with its id
-ids-kept : (records : List (Option Rec)) (i : ℕ) (old r : Rec) → record_at records i ≡ Some old → r.id ≡ old.id
+pub ids-kept : (records : List (Option Rec)) (i : ℕ) (old r : Rec) → record_at records i ≡ Some old → r.id ≡ old.id
     → ids_of (slice_set records i (Some r)) ≡ ids_of records
 ids-kept [] i old r at same = absurd (none-some old at)
 ids-kept (None ∷ records) zero old r at same = absurd (none-some old at)

@@ -8,3 +8,4 @@ pub mod Found
 pub mod Rising
 pub mod Kept
 pub mod Starts
+pub mod LiveRecords

@@ -6,26 +6,16 @@ use Rattle.std.proofs.lemmas.List.{get_or_past, get_or-replicate, length-map, le
 use Rattle.std.proofs.lemmas.Option.{none-some, same_Some}
 use Rattle.areanode.specs.Trees.{TreeView, IsTreeDepth, nodes_in}
 use Rattle.entity_recs.specs.declared.limits.TheConstants.{IDS}
-use Rattle.entity_recs.specs.declared.kind.Kind.{Kind}
-use Rattle.entity_recs.specs.declared.kind.Kind.TheVariants.{Player, Ammo, Gem, Teleporter, Goal, Lift}
 use Rattle.entity_recs.specs.declared.rec.Rec.{Rec}
-use Rattle.entity_recs.specs.Records.{IsIdOf, IsRecord}
+use Rattle.entity_recs.specs.Records.{IsRecord}
+use Rattle.entity_recs.proofs.Ids.{id_in}
 use Rattle.link_lists.specs.Pool.{ListsView, where_of, empty_pool, inserted, removed, IsProper, SetsOnly}
 use Rattle.link_lists.proofs.Pools.{IsProper-empty, where_of-empty}
 use Rattle.world_tree.specs.Live.{record_at, IsEntry, AreEntries}
 use Rattle.world_tree.specs.Worlds.{WorldView, world_of, list_for, IsLinked}
 
--- the ids of records are among the ids
-id_of_kind-below : (kind : Kind) (id : ℕ) → IsIdOf kind id → id < IDS
-id_of_kind-below Player id h = omega arith
-id_of_kind-below Ammo id h = omega arith
-id_of_kind-below Gem id h = omega arith
-id_of_kind-below Teleporter id h = omega arith
-id_of_kind-below Goal id h = omega arith
-id_of_kind-below Lift id h = omega arith
-
 pub id-below : (r : Rec) → IsRecord r → r.id < IDS
-id-below r is = id_of_kind-below r.kind r.id is.id
+id-below r is = id_in r.kind r.id is.id
 
 -- no id is live among empty places
 pub record_at-empty : (n id : ℕ) → record_at (replicate n None) id ≡ None

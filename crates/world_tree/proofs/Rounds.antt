@@ -16,7 +16,7 @@ use Rattle.world_tree.specs.Walks.{marked, ids_at, triggers_at}
 abbrev pub passing : (ℕ → Bool) → ℕ → List ℕ
 passing test n = filter test (range_with_len 0 n)
 
-range-more : (a n : ℕ) → range_with_len a (suc n) ≡ range_with_len a n ++ (a + n) ∷ []
+pub range-more : (a n : ℕ) → range_with_len a (suc n) ≡ range_with_len a n ++ (a + n) ∷ []
 range-more a zero = ap (λ (b : ℕ). b ∷ []) (omega arith)
 range-more a (suc n) =
     let same : a + 1 + n ≡ a + suc n = omega arith in

@@ -3,7 +3,7 @@ use Rattle.std.proofs.Common.{◌≡◌, ℕ, ◌+◌, ◌≤◌, ◌==◌, Bool
 use Rattle.std.specs.Prelude.{filter_map}
 use Rattle.std.specs.List.{list_any, cons_option, AllByRecursion}
 use Rattle.std.specs.Option.{option_map}
-use Rattle.std.proofs.lemmas.Bool.{eq-eqb}
+use Rattle.std.proofs.lemmas.Bool.{eq-eqb, and_parts}
 use Rattle.std.proofs.lemmas.Int.{ints}
 use Rattle.std.proofs.lemmas.Option.{none-some, same_Some}
 use Rattle.std.proofs.lemmas.List.Elements.{All-contains, All-contains_itself, All-from_recursion, All-weaker, recursion_from_All}
@@ -28,7 +28,7 @@ use Rattle.arena_map.specs.Maps.{MapView, IsMap, entities_of, dest_of}
 use Rattle.trigger_rules.specs.Touching.{touched_by, solids_among, Walk, first_walk, after_trigger, touched}
 use Rattle.trigger_rules.specs.Laws.{IsTaken, IsPlayerOn}
 use Rattle.trigger_rules.proofs.Bounds.{dest-stands}
-use Rattle.trigger_rules.proofs.Steps.{Step, step, item-change, both, walk-keeps-in}
+use Rattle.trigger_rules.proofs.Steps.{Step, step, item-change, walk-keeps-in}
 use Rattle.trigger_rules.proofs.Taken.{stay_themselves, only_leaps}
 use Rattle.arena_actions.specs.Outcomes.{moved_among, outcome_in}
 use Rattle.arena_actions.specs.Regions.{reach_growth, reach_of, first_box, elsewhere, landing_at, landing_of, region_with}
@@ -226,7 +226,7 @@ module _ (room : ℕ) (enough : 16384 ≤ room) (arena : MapView) (me : Rec) (ne
       let is_record =
       taken_is_record arena item is_map (All-contains (λ r. takes arena r
       ≡ true) near item call.others is.listed) in
-      let touch = (both (not (is_solid item.kind)) (touches (abs_of item) (abs_of moved)) is.is_near).1 in
+      let touch = (and_parts (not (is_solid item.kind)) (touches (abs_of item) (abs_of moved)) is.is_near).1 in
       let reached =
       touches-wider (reach_of me c.ms) (abs_of moved) (abs_of item) (reach_contains_moved arena me near c short) touch in
       let inside =

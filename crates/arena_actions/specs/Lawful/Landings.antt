@@ -8,6 +8,7 @@ use Rattle.std.proofs.lemmas.Bool.Decides.{nat_tests}
 use Rattle.std.proofs.lemmas.Option.{none-some, same_Some}
 use Rattle.std.proofs.lemmas.List.{length-append, length-take-le, take-append-drop, take_all}
 use Rattle.std.proofs.lemmas.List.Elements.{filter_map-append}
+use Rattle.std.proofs.lemmas.Bool.{or_right}
 use Rattle.arena_geo.specs.declared.vec3.Vec3.{Vec3}
 use Rattle.arena_geo.specs.Bounds.{Bounds}
 use Rattle.arena_geo.specs.Boxes.{touches}
@@ -26,10 +27,6 @@ use Rattle.arena_actions.specs.Regions.{landing_at, landing_of}
 use Rattle.arena_actions.specs.Leaps.{leap_of, landing_by}
 
 -- ---- one thing more
-
-or_true : (a b : Bool) → b ≡ true → (a || b) ≡ true
-or_true true b e = refl
-or_true false b e = e
 
 module _ {X Y : Type 0} (h : X → Option Y) where
   -- what h gives of the items up to a place, and of one more
@@ -64,7 +61,7 @@ module _ {X Y : Type 0} (h : X → Option Y) where
 
       later : (o : Option Y) → list_any p (filter_map h xs) ≡ true → list_any p (cons_option o (filter_map h xs)) ≡ true
       later None e = e
-      later (Some w) e = or_true (p w) (list_any p (filter_map h xs)) e
+      later (Some w) e = or_right (p w) (list_any p (filter_map h xs)) e
 
       by : (b : Bool) → cond b (Some z) (find test xs) ≡ Some x
           → (find test xs ≡ Some x → h x ≡ Some y → p y ≡ true → list_any p (filter_map h xs) ≡ true)

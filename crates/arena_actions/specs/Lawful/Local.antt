@@ -3,6 +3,7 @@ use Rattle.std.proofs.Common.{◌≡◌, ℕ, ◌≤◌, Bool, true, false, not,
 use Rattle.std.specs.List.{list_any}
 use Rattle.std.proofs.lemmas.List.Elements.{filter-append}
 use Rattle.std.proofs.lemmas.List.Folds.{list_any-append}
+use Rattle.std.proofs.lemmas.Bool.{and_parts}
 use Rattle.arena_geo.specs.declared.vec3.Vec3.{Vec3}
 use Rattle.arena_geo.specs.Bounds.{Bounds}
 use Rattle.arena_geo.specs.Boxes.{overlaps, touches, is_blocked}
@@ -13,19 +14,18 @@ use Rattle.entity_recs.specs.Bodies.{player_body, body_of, abs_of, is_touched}
 use Rattle.entity_recs.specs.Commands.{Command}
 use Rattle.entity_recs.specs.Actions.{IsCall, HasLocality, touching}
 use Rattle.entity_recs.proofs.Standing.{abs_contains_body}
+use Rattle.entity_recs.proofs.Ids.{player_shape}
 use Rattle.player_move.specs.declared.moved.Moved.{Moved}
 use Rattle.player_move.specs.Laws.{looked_at}
 use Rattle.player_move.proofs.Looking.{move_looks_within}
 use Rattle.arena_map.specs.Maps.{MapView, IsMap, solids_of}
 use Rattle.trigger_rules.specs.Touching.{bodies_of_solids, solids_among, touched}
 use Rattle.trigger_rules.specs.Laws.{HaveSameWays}
-use Rattle.trigger_rules.proofs.Steps.{both}
 use Rattle.trigger_rules.proofs.Taken.{only_touched}
 use Rattle.arena_actions.specs.Outcomes.{asked, after_move, moved_among, effect_of, outcome_in}
 use Rattle.arena_actions.specs.Regions.{reach_of, first_box, landing_at, region_with}
 use Rattle.arena_actions.specs.Takes.{takes}
 use Rattle.arena_actions.specs.Lawful.Inside.{contains-through, touches-wider, touches-around}
-use Rattle.arena_actions.specs.Lawful.Players.{player_shape}
 use Rattle.arena_actions.specs.Lawful.Reached.{first_contains_reach, first_contains_looked, reach_contains_moved, touches_first, IsWay, way_touches, landing_contains_body}
 use Rattle.arena_actions.specs.Lawful.Valid.{has_player_on}
 
@@ -144,7 +144,7 @@ module _ (room : ℕ) (arena : MapView) (me : Rec) (near : List Rec) (c : Comman
   -- so does a trigger that the player touches where it has moved to
   touched_touches : (r : Rec) → is_touched (abs_of moved) r ≡ true → keep r ≡ true
   touched_touches r h =
-      let touch = (both (not (is_solid r.kind)) (touches (abs_of r) (abs_of moved)) h).1 in
+      let touch = (and_parts (not (is_solid r.kind)) (touches (abs_of r) (abs_of moved)) h).1 in
       let first =
       contains-through (first_box room me c.ms) (reach_of me c.ms) (abs_of moved) (first_contains_reach room me c.ms) (reach_contains_moved arena me near c short) in
       touches_first room arena me c (abs_of r) (touches-wider (first_box room me c.ms) (abs_of moved) (abs_of r) first touch)

@@ -11,6 +11,7 @@ use Rattle.entity_recs.specs.declared.rec.Rec.{Rec}
 use Rattle.entity_recs.specs.Records.{HasCorners}
 use Rattle.entity_recs.specs.Bodies.{standing, body_of}
 use Rattle.entity_recs.specs.Commands.{Command}
+use Rattle.entity_recs.proofs.Ids.{player_shape}
 use Rattle.player_move.proofs.Ending.{move_ends_free}
 use Rattle.arena_map.specs.Maps.{MapView}
 use Rattle.player_move.specs.Moves.{move_of}
@@ -20,7 +21,7 @@ use Rattle.trigger_rules.proofs.Leaping.{leaps_from_teleporters}
 use Rattle.trigger_rules.proofs.Bounds.{stay_on, states_apart}
 use Rattle.arena_actions.specs.Outcomes.{asked, after_move, effect_of, moved_among, outcome_in}
 use Rattle.arena_actions.specs.Laws.{PlayersStayOnMaps, IsPlayerAfter, MovesKeepWhoMoves, IsMoveAlone, MovesAreMade, PlayersAreWhereTheyMoved, TouchingFollowsMoves, PlayersStayFree, MovesTakeWhatIsThere, NewStatesAreApart, RepliedIdsRise, RepliesHaveTheOrigin}
-use Rattle.arena_actions.specs.Lawful.Players.{player_shape, moved_stays_on}
+use Rattle.arena_actions.specs.Lawful.Players.{moved_stays_on}
 
 pub stay_on_maps : PlayersStayOnMaps
 unfolding outcome_in

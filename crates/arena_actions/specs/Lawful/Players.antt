@@ -15,6 +15,7 @@ use Rattle.entity_recs.specs.Records.{IsRecord, IsShapeOf}
 use Rattle.entity_recs.specs.Bodies.{standing, player_body}
 use Rattle.entity_recs.specs.Commands.{Command}
 use Rattle.entity_recs.proofs.Standing.{records_have_boxes}
+use Rattle.entity_recs.proofs.Ids.{player_shape}
 use Rattle.player_move.specs.Moves.{move_of}
 use Rattle.player_move.proofs.Insides.{move_stays_inside}
 use Rattle.player_move.proofs.Slows.{move_stays_slow}
@@ -23,10 +24,6 @@ use Rattle.trigger_rules.specs.Touching.{bodies_of_solids, solids_among}
 use Rattle.trigger_rules.specs.Laws.{IsPlayerOn}
 use Rattle.arena_actions.specs.Outcomes.{asked, flags_of, moved_among}
 use Rattle.arena_actions.specs.Regions.{elsewhere}
-
--- a player's shape
-pub player_shape : (r : Rec) → IsRecord r → r.kind ≡ Player → IsShapeOf Player r.origin r.mins r.maxs
-player_shape r is kind = subst (λ (k : Kind). IsShapeOf k r.origin r.mins r.maxs) kind is.shape
 
 near_on : (lo hi l h : ℤ) → unsigned_abs lo ≤ 1048576 → unsigned_abs hi ≤ 1048576 → contains_on lo hi l h ≡ true
     → (lo ≤ℤ l) × (h ≤ℤ hi)

@@ -1,10 +1,11 @@
 -- What lies in the region of a move, and what touches it.
-use Rattle.std.proofs.Common.{◌≡◌, ℕ, ◌+◌, ◌≤◌, ◌==◌, Bool, true, false, ◌||◌, not, if◌then◌else◌, List, Contains, All, ℤ, pos, ◌+ℤ◌, ◌-ℤ◌, ◌≤ℤ◌, Some, None, refl, sym, ap, ◌∙◌, subst, arith}
+use Rattle.std.proofs.Common.{◌≡◌, ℕ, ◌+◌, ◌≤◌, ◌==◌, Bool, true, ◌||◌, not, if◌then◌else◌, List, Contains, All, ℤ, pos, ◌+ℤ◌, ◌-ℤ◌, ◌≤ℤ◌, Some, None, sym, ap, ◌∙◌, subst, arith}
 use Rattle.std.specs.Prelude.{filter_map}
 use Rattle.std.specs.List.{list_any}
 use Rattle.std.specs.Option.{option_map}
 use Rattle.std.proofs.lemmas.Int.{ints}
 use Rattle.std.proofs.lemmas.List.Elements.{All-contains, All-filter, filter_passes}
+use Rattle.std.proofs.lemmas.Bool.{or_right, and_parts}
 use Rattle.arena_geo.specs.declared.vec3.Vec3.{Vec3}
 use Rattle.arena_geo.specs.Vectors.{IsNotNegative}
 use Rattle.arena_geo.specs.Bounds.{Bounds}
@@ -26,7 +27,6 @@ use Rattle.player_move.proofs.WholeMoves.{move_reach}
 use Rattle.arena_map.specs.Maps.{MapView, IsMap, entities_of, dest_of}
 use Rattle.arena_map.specs.Validity.{IsSameThing}
 use Rattle.trigger_rules.specs.Touching.{touched_by, solids_among}
-use Rattle.trigger_rules.proofs.Steps.{both}
 use Rattle.arena_actions.specs.Outcomes.{asked, moved_among}
 use Rattle.arena_actions.specs.Regions.{reach_of, first_box, room_of, elsewhere, landing_at, landing_of, region_with}
 use Rattle.arena_actions.specs.declared.sizes.TheConstants.{ROOM}
@@ -34,10 +34,6 @@ use Rattle.arena_actions.specs.Takes.{thing_with, takes}
 use Rattle.arena_actions.specs.Lawful.Inside.{contains-through, touches-wider, contains-moved}
 use Rattle.arena_actions.specs.Lawful.Landings.{any_found}
 use Rattle.arena_actions.specs.Lawful.Taking.{taken_teleporter, thing_has_id}
-
-or_true : (a b : Bool) → b ≡ true → (a || b) ≡ true
-or_true true b e = refl
-or_true false b e = e
 
 -- ---- the first box
 
@@ -119,7 +115,7 @@ way_lands map me near c r dest is_map short taken way thing found same =
     let moved = moved_among map me near c in
     let test = is_touched (abs_of moved) in
     let passes = All-contains (λ s. test s ≡ true) (touched_by moved near) r (filter_passes test near) way.touched in
-    let touch = (both (not (is_solid r.kind)) (touches (abs_of r) (abs_of moved)) passes).1 in
+    let touch = (and_parts (not (is_solid r.kind)) (touches (abs_of r) (abs_of moved)) passes).1 in
     let reached =
     touches-wider (reach_of me c.ms) (abs_of moved) (abs_of r) (reach_contains_moved map me near c short) touch in
     let there : touches (abs_of thing) (reach_of me c.ms) ≡ true =
@@ -143,7 +139,7 @@ way_passes room p map me near c r dest is_map short taken way passes =
     ≡ true) near taken) way.touched in
     let is = taken_teleporter map r is_taken way.kind in
     let lands = way_lands map me near c r dest is_map short taken way is.thing is.found is.same in
-    or_true (p (first_box room me c.ms)) (list_any p (filter_map (landing_of map me (reach_of me c.ms)) (entities_of map)))
+    or_right (p (first_box room me c.ms)) (list_any p (filter_map (landing_of map me (reach_of me c.ms)) (entities_of map)))
     (any_found (landing_of map me (reach_of me c.ms)) p (λ t. t.id == r.id) (entities_of map) is.thing (landing_at me dest) is.found lands passes)
 
 pub way_touches : (room : ℕ) (map : MapView) (me : Rec) (near : List Rec) (c : Command) (r : Rec) (dest : Vec3) (b : Bounds)

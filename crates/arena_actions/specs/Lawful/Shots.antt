@@ -3,7 +3,7 @@ use Rattle.std.proofs.Common.{◌≡◌, ℕ, ◌<◌, ◌≤◌, ◌==◌, nat_
 use Rattle.std.specs.Prelude.{find, bit_or}
 use Rattle.std.specs.Int.{bit_at}
 use Rattle.std.specs.List.{IsDistinct, AllByRecursion}
-use Rattle.std.proofs.lemmas.Bool.{eq-eqb, ne_eqb}
+use Rattle.std.proofs.lemmas.Bool.{eq-eqb, ne_eqb, and_parts}
 use Rattle.std.proofs.lemmas.Int.{ints}
 use Rattle.std.proofs.lemmas.Nat.Bits.{bit_at_or, bit_at-lt}
 use Rattle.std.proofs.lemmas.List.Elements.{All-contains, All-nil, All-from_recursion, All-weaker, recursion_from_All}
@@ -24,11 +24,11 @@ use Rattle.entity_recs.specs.Bodies.{standing, growth_of, body_of, abs_of}
 use Rattle.entity_recs.specs.Commands.{Command}
 use Rattle.entity_recs.specs.Actions.{IsCall, HasValidity, HasLocality, HasFootprint, StaysWithin, is_of_one_inside, touching}
 use Rattle.entity_recs.proofs.Standing.{abs_contains_body}
+use Rattle.entity_recs.proofs.Ids.{player_shape}
 use Rattle.box_trace.specs.Steps.{step_count, body_at}
 use Rattle.arena_map.specs.Maps.{MapView, IsMap, solids_of}
 use Rattle.trigger_rules.specs.Touching.{Walk, first_walk, touched, new_state}
 use Rattle.trigger_rules.specs.Laws.{IsTaken, IsPlayerOn}
-use Rattle.trigger_rules.proofs.Steps.{both}
 use Rattle.trigger_rules.proofs.Taken.{only_leaps}
 use Rattle.trigger_rules.proofs.Leaping.{leaps_from_teleporters}
 use Rattle.shot_rules.specs.Targets.{is_set, shot_box, way_along, is_in_way}
@@ -42,7 +42,7 @@ use Rattle.arena_actions.specs.Regions.{reach_of, first_box, room_of, region_wit
 use Rattle.arena_actions.specs.Takes.{takes}
 use Rattle.arena_actions.specs.Lawful.Growing.{amount}
 use Rattle.arena_actions.specs.Lawful.Inside.{contains-through, touches-around, IsShort, contains-touched, contains-larger, contains-twice}
-use Rattle.arena_actions.specs.Lawful.Players.{player_shape, moved_stays_on}
+use Rattle.arena_actions.specs.Lawful.Players.{moved_stays_on}
 use Rattle.arena_actions.specs.Lawful.Moves.{stay_on_maps, keep_who_moves, take_what_is_there}
 use Rattle.arena_actions.specs.Lawful.Taking.{taken_is_record, taken_is_keepable, taken_in_any_state, player_is_taken}
 use Rattle.arena_actions.specs.Lawful.Reached.{reach_contains_moved, touches_first, inside_first}
@@ -194,7 +194,7 @@ find_kept p q kept (r ∷ near) = by (p r) (q r) refl refl (find_kept p q kept n
     by false false passes keeps rest = rest
 
 -- a list with one more
-all_and_one : {X : Type 0} (P : X → Type 0) (xs : List X) (x : X) → AllByRecursion P xs → P x → AllByRecursion P (xs ++ x ∷ [])
+pub all_and_one : {X : Type 0} (P : X → Type 0) (xs : List X) (x : X) → AllByRecursion P xs → P x → AllByRecursion P (xs ++ x ∷ [])
 all_and_one P [] x all one = (one, tt)
 all_and_one P (y ∷ xs) x all one = (all.0, all_and_one P xs x all.1 one)
 
@@ -247,7 +247,7 @@ module _ (arena : MapView) (me : Rec) (near : List Rec) (c : Command) (is_map : 
       → is_in_way (body_at (shot_box walk.me.origin) way k) r ≡ true → keep r ≡ true
   unfolding keep
   in_way_is_kept fired k within r in_way =
-      let overlap = (both (is_solid r.kind) (overlaps (body_at (shot_box walk.me.origin) way k) (body_of r)) in_way).1 in
+      let overlap = (and_parts (is_solid r.kind) (overlaps (body_at (shot_box walk.me.origin) way k) (body_of r)) in_way).1 in
       touches_first SHOT_ROOM arena me c (abs_of r)
       (touches-around (first_box SHOT_ROOM me c.ms) (body_at (shot_box walk.me.origin) way k) (body_of r) (abs_of r)
       (contains-through (first_box SHOT_ROOM me c.ms) beyond (body_at (shot_box walk.me.origin) way k)

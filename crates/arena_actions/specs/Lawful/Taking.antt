@@ -1,13 +1,13 @@
 -- What a record that is taken is, and that players on the map are taken.
 use Rattle.std.proofs.Common.{◌≡◌, ℕ, ◌<◌, ◌≤◌, ◌==◌, nat_lt, nat_le, Bool, true, ◌&&◌, if◌then◌else◌, ℤ, ◌+ℤ◌, ◌≤ℤ◌, int_le, unsigned_abs, Option, Some, None, refl, sym, ap, ◌∙◌, subst, arith}
 use Rattle.std.specs.Ordering.{int_eq}
-use Rattle.std.proofs.lemmas.Bool.{eqb-true}
+use Rattle.std.proofs.lemmas.Bool.{eqb-true, and_parts}
 use Rattle.std.proofs.lemmas.Bool.Decides.{nat_tests, Decides-int_eq}
 use Rattle.std.proofs.lemmas.Int.{ints}
 use Rattle.arena_geo.specs.declared.vec3.Vec3.{Vec3}
-use Rattle.arena_geo.specs.Vectors.{IsNear}
+use Rattle.arena_geo.specs.Vectors.{IsNear, is_near, is_same_vector}
 use Rattle.arena_geo.specs.Boxes.{contains}
-use Rattle.arena_geo.proofs.Vectors.{same_parts}
+use Rattle.arena_geo.proofs.Vectors.{near_by_test, same_by_test}
 use Rattle.entity_recs.specs.declared.bodies.TheConstants.{PLAYER_MINS, PLAYER_MAXS}
 use Rattle.entity_recs.specs.declared.kind.Kind.{Kind}
 use Rattle.entity_recs.specs.declared.kind.Kind.TheVariants.{Player, Ammo, Gem, Teleporter, Goal, Lift}
@@ -16,6 +16,7 @@ use Rattle.entity_recs.specs.Kinds.{number_of}
 use Rattle.entity_recs.specs.Records.{IsMapId, IsIdOf, IsShapeOf, IsRecord, with_state}
 use Rattle.entity_recs.specs.Bodies.{body_of}
 use Rattle.entity_recs.specs.Actions.{IsKeepable}
+use Rattle.entity_recs.proofs.Ids.{player_shape}
 use Rattle.arena_map.specs.declared.lift.Lift as lifts
 use Rattle.arena_map.specs.Maps.{MapView, IsMap, lift_of}
 use Rattle.arena_map.specs.Validity.{IsSameThing, IsSameLift}
@@ -24,32 +25,15 @@ use Rattle.arena_map.proofs.Lifts.{lifts_stay_inside}
 use Rattle.arena_map.proofs.Opening.{found-in}
 use Rattle.arena_map.proofs.ThingRecords.{thing-is_record, own-id}
 use Rattle.trigger_rules.specs.Laws.{IsPlayerOn}
-use Rattle.trigger_rules.proofs.Steps.{both}
-use Rattle.arena_actions.specs.Takes.{is_near, is_same_vector, has_numbers, has_shape_of, is_player, is_thing, is_lift, thing_with, is_one_of, takes}
-use Rattle.arena_actions.specs.Lawful.Players.{player_shape}
+use Rattle.arena_actions.specs.Takes.{has_numbers, has_shape_of, is_player, is_thing, is_lift, thing_with, is_one_of, takes}
 
 -- ---- what the tests say
-
-near_of_test : (far : ℕ) (v : Vec3) → is_near far v ≡ true → IsNear far v
-near_of_test far v h =
-    let xy = both (nat_le (unsigned_abs v.x) far && nat_le (unsigned_abs v.y) far) (nat_le (unsigned_abs v.z) far) h in
-    let x_y = both (nat_le (unsigned_abs v.x) far) (nat_le (unsigned_abs v.y) far) xy.0 in
-    record { x = at_most v.x x_y.0; y = at_most v.y x_y.1; z = at_most v.z xy.1 }
-  where
-    at_most : (n : ℤ) → nat_le (unsigned_abs n) far ≡ true → unsigned_abs n ≤ far
-    at_most n e = grind (arith, nat_tests)
 
 test_of_near : (far : ℕ) (v : Vec3) → IsNear far v → is_near far v ≡ true
 test_of_near far v is = rw (passes v.x is.x, passes v.y is.y, passes v.z is.z) refl
   where
     passes : (n : ℤ) → unsigned_abs n ≤ far → nat_le (unsigned_abs n) far ≡ true
     passes n e = grind (arith, nat_tests)
-
-same_of_test : (v w : Vec3) → is_same_vector v w ≡ true → v ≡ w
-same_of_test v w h =
-    let xy = both (int_eq v.x w.x && int_eq v.y w.y) (int_eq v.z w.z) h in
-    let x_y = both (int_eq v.x w.x) (int_eq v.y w.y) xy.0 in
-    same_parts ((Decides-int_eq v.x w.x).0 x_y.0) ((Decides-int_eq v.y w.y).0 x_y.1) ((Decides-int_eq v.z w.z).0 xy.1)
 
 itself : (n : ℤ) → int_eq n n ≡ true
 itself n = (Decides-int_eq n n).1 refl
@@ -94,15 +78,15 @@ numbers_of_test r h =
     let e = nat_le r.carry 8 in
     let f = nat_lt r.score 4294967296 in
     let g = nat_lt r.seq 4294967296 in
-    let p = both (a && b && c && d && e && f) g h in
-    let q = both (a && b && c && d && e) f p.0 in
-    let s = both (a && b && c && d) e q.0 in
-    let t = both (a && b && c) d s.0 in
-    let u = both (a && b) c t.0 in
-    let v = both a b u.0 in
+    let p = and_parts (a && b && c && d && e && f) g h in
+    let q = and_parts (a && b && c && d && e) f p.0 in
+    let s = and_parts (a && b && c && d) e q.0 in
+    let t = and_parts (a && b && c) d s.0 in
+    let u = and_parts (a && b) c t.0 in
+    let v = and_parts a b u.0 in
     record {
-      origin = near_of_test 1048576 r.origin v.0;
-      vel = near_of_test 512000 r.vel v.1;
+      origin = near_by_test 1048576 r.origin v.0;
+      vel = near_by_test 512000 r.vel v.1;
       flags = at_most r.flags 3 u.1;
       ammo = at_most r.ammo 100 t.1;
       carry = at_most r.carry 8 s.1;
@@ -137,13 +121,13 @@ record HasShapeOf (thing r : Rec) : Type 0 where
 
 shape_of_test : (thing r : Rec) → has_shape_of thing r ≡ true → HasShapeOf thing r
 shape_of_test thing r h =
-    let p = both ((number_of r.kind == number_of thing.kind)
+    let p = and_parts ((number_of r.kind == number_of thing.kind)
     && is_same_vector r.mins thing.mins) (is_same_vector r.maxs thing.maxs) h in
-    let q = both (number_of r.kind == number_of thing.kind) (is_same_vector r.mins thing.mins) p.0 in
+    let q = and_parts (number_of r.kind == number_of thing.kind) (is_same_vector r.mins thing.mins) p.0 in
     record {
       kind = same_kind r.kind thing.kind q.0;
-      mins = same_of_test r.mins thing.mins q.1;
-      maxs = same_of_test r.maxs thing.maxs p.1;
+      mins = same_by_test r.mins thing.mins q.1;
+      maxs = same_by_test r.maxs thing.maxs p.1;
     }
 
 -- the record is that of a thing of the map
@@ -156,14 +140,14 @@ pub thing_of_test : (map : MapView) (r : Rec) (o : Option Rec) → thing_with ma
     → IsThingsRecord map r
 thing_of_test map r None found h = cc
 thing_of_test map r (Some thing) found h =
-    let p = both (has_shape_of thing r) (is_same_vector r.origin thing.origin) h in
+    let p = and_parts (has_shape_of thing r) (is_same_vector r.origin thing.origin) h in
     let shape = shape_of_test thing r p.0 in
     record {
       thing = thing;
       found = found;
       same = record {
         kind = shape.kind;
-        origin = same_of_test r.origin thing.origin p.1;
+        origin = same_by_test r.origin thing.origin p.1;
         mins = shape.mins;
         maxs = shape.maxs;
       };
@@ -187,10 +171,10 @@ lift_of_test map r (Some lift) (Some thing) data_are found h =
     let c = int_eq r.origin.y thing.origin.y in
     let d = int_le lift.low r.origin.z in
     let e = int_le r.origin.z (lift.low +ℤ lift.rise) in
-    let p = both (a && b && c && d) e h in
-    let q = both (a && b && c) d p.0 in
-    let s = both (a && b) c q.0 in
-    let t = both a b s.0 in
+    let p = and_parts (a && b && c && d) e h in
+    let q = and_parts (a && b && c) d p.0 in
+    let s = and_parts (a && b) c q.0 in
+    let t = and_parts a b s.0 in
     let shape = shape_of_test thing r t.0 in
     record {
       lift = lift;
@@ -277,13 +261,13 @@ player_of_test map r h =
     let a = nat_lt r.id 64 in
     let b = is_same_vector r.mins PLAYER_MINS in
     let c = is_same_vector r.maxs PLAYER_MAXS in
-    let p = both (a && b && c) (contains map.bounds (body_of r)) h in
-    let q = both (a && b) c p.0 in
-    let s = both a b q.0 in
+    let p = and_parts (a && b && c) (contains map.bounds (body_of r)) h in
+    let q = and_parts (a && b) c p.0 in
+    let s = and_parts a b q.0 in
     record {
       id = below s.0;
-      mins = same_of_test r.mins PLAYER_MINS s.1;
-      maxs = same_of_test r.maxs PLAYER_MAXS q.1;
+      mins = same_by_test r.mins PLAYER_MINS s.1;
+      maxs = same_by_test r.maxs PLAYER_MAXS q.1;
       inside = p.1;
     }
   where
@@ -312,7 +296,7 @@ pub record IsTakenAs (map : MapView) (r : Rec) : Type 0 where
 pub taken_as : (map : MapView) (r : Rec) → takes map r ≡ true → IsTakenAs map r
 unfolding takes
 taken_as map r h =
-    let p = both (has_numbers r) (is_one_of r.kind map r) h in record { numbers = numbers_of_test r p.0; one = p.1 }
+    let p = and_parts (has_numbers r) (is_one_of r.kind map r) h in record { numbers = numbers_of_test r p.0; one = p.1 }
 
 -- a record that is taken is within its bounds
 pub taken_is_record : (map : MapView) (r : Rec) → IsMap map → takes map r ≡ true → IsRecord r

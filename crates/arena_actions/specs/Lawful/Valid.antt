@@ -1,11 +1,9 @@
 -- Validity: a move leaves its player a record that is taken.
-use Rattle.std.proofs.Common.{◌≡◌, ℕ, ◌<◌, refl, sym, subst, arith}
-use Rattle.entity_recs.specs.declared.kind.Kind.{Kind}
-use Rattle.entity_recs.specs.declared.kind.Kind.TheVariants.{Player, Ammo, Gem, Teleporter, Goal, Lift}
+use Rattle.std.proofs.Common.{ℕ, ◌<◌, sym, subst, arith}
 use Rattle.entity_recs.specs.declared.rec.Rec.{Rec}
-use Rattle.entity_recs.specs.Records.{IsIdOf}
 use Rattle.entity_recs.specs.Commands.{Command}
 use Rattle.entity_recs.specs.Actions.{HasPlayer, HasValidity}
+use Rattle.entity_recs.proofs.Ids.{kind_of_id}
 use Rattle.arena_map.specs.Maps.{MapView, IsMap}
 use Rattle.trigger_rules.specs.Laws.{IsPlayerOn}
 use Rattle.arena_actions.specs.Outcomes.{outcome_in}
@@ -13,21 +11,12 @@ use Rattle.arena_actions.specs.Takes.{takes}
 use Rattle.arena_actions.specs.Lawful.Moves.{stay_on_maps, keep_who_moves}
 use Rattle.arena_actions.specs.Lawful.Taking.{taken_is_record, taken_is_keepable, taken_is_player, player_is_taken, taken_in_any_state}
 
--- a record with the id of a slot is a player's
-kind_of_slot : (kind : Kind) (id : ℕ) → IsIdOf kind id → id < 64 → kind ≡ Player
-kind_of_slot Player id is below = refl
-kind_of_slot Ammo id is below = absurd (omega (arith, is.least, below))
-kind_of_slot Gem id is below = absurd (omega (arith, is.least, below))
-kind_of_slot Teleporter id is below = absurd (omega (arith, is.least, below))
-kind_of_slot Goal id is below = absurd (omega (arith, is.least, below))
-kind_of_slot Lift id is below = absurd (omega (arith, is.least, below))
-
 -- the command's player is on the map
 pub has_player_on : (map : MapView) (me : Rec) (c : Command) → IsMap map → HasPlayer (takes map) me c
     → IsPlayerOn map me
 has_player_on map me c is_map has =
     let below : me.id < 64 = subst (λ (id : ℕ). id < 64) (sym has.own) has.command.slot in
-    taken_is_player map me is_map has.taken (kind_of_slot me.kind me.id (taken_is_record map me is_map has.taken).id below)
+    taken_is_player map me is_map has.taken (kind_of_id me.kind me.id (taken_is_record map me is_map has.taken).id below)
 
 pub is_valid : (map : MapView) → IsMap map → HasValidity (takes map) (outcome_in map)
 is_valid map is_map = record {

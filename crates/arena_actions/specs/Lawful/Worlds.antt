@@ -18,9 +18,6 @@ use Rattle.arena_actions.specs.Takes.{has_numbers, has_shape_of, is_thing, is_li
 use Rattle.arena_actions.specs.Worlds.{ValidRecordsAreTaken, TakenRecordsAreValid}
 use Rattle.arena_actions.specs.Lawful.Taking.{HasNumbers, test_of_numbers, test_of_same, taken_as, thing_of_test, lift_of_test, IsThingsRecord, IsLiftsRecord, thing_has_id, taken_is_record, taken_is_player, player_is_taken}
 
-true_false : true ≡ false → ⊥
-true_false h = cc
-
 -- ---- valid records are taken
 
 test_of_shape : (thing r : Rec) → r.kind ≡ thing.kind → r.mins ≡ thing.mins → r.maxs ≡ thing.maxs

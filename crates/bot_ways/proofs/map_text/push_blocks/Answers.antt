@@ -2,7 +2,7 @@ use Rattle.std.proofs.Common.{◌<◌, length, get_or, List, sym, ap, ◌∙◌,
 use Rattle.arena_geo.specs.Bounds.{Bounds}
 use Rattle.arena_geo.specs.Vectors.{IsNear}
 use Rattle.arena_map.specs.Maps.{IsBlock}
-use Rattle.bot_ways.proofs.MapsBefore.{block_near}
+use Rattle.demo_lines.proofs.RecordingsRead.{block_near}
 use Rattle.bot_ways.proofs.map_text.push_blocks.Goals as goal
 
 pub push_line-requires : goal.push_line-requires

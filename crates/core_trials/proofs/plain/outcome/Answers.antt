@@ -2,9 +2,10 @@ use Rattle.std.proofs.Common.{◌≡◌, true, false, not, map, rules}
 use Rattle.std.specs.Prelude.{◌==◌}
 use Rattle.std.specs.List.{list_all}
 use Rattle.std.specs.List.Sorted.{IsStrictlyIncreasing}
+use Rattle.std.proofs.lemmas.Bool.{not-true}
 use Rattle.entity_recs.specs.declared.rec.Rec.{Rec}
 use Rattle.core_trials.specs.Errand.{takes}
-use Rattle.core_trials.proofs.Calls.{all_hold, not_true}
+use Rattle.core_trials.proofs.Calls.{all_hold}
 use Rattle.core_trials.proofs.plain.outcome.Goals as goal
 
 pub act-requires : goal.act-requires
@@ -20,5 +21,5 @@ act-requires c =
       player = record { command = c.requires; own = own; taken = taken };
       others = all_hold takes takes true (λ r h. h) others each;
       rising = rising;
-      none_is_me = all_hold (λ (r : Rec). not (r.id == me.id)) (λ (r : Rec). r.id == me.id) false (λ r h. not_true (r.id == me.id) h) others none;
+      none_is_me = all_hold (λ (r : Rec). not (r.id == me.id)) (λ (r : Rec). r.id == me.id) false (λ r h. not-true (r.id == me.id) h) others none;
     }

@@ -1,4 +1,4 @@
-use Rattle.std.proofs.Common.{◌++◌, refl, ap, ◌+◌, ◌∙◌}
+use Rattle.std.proofs.Common.{◌++◌, refl, ap, ◌∙◌}
 use Rattle.out_text.specs.Feeds.{with_froms, fed_lines}
 use Rattle.out_text.proofs.FedRuns.{fed_lines-push}
 use Rattle.out_text.proofs.laws.fed_lines_are_in_turn.Goals as goal

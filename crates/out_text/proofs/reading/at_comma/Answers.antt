@@ -1,6 +1,7 @@
 use Rattle.std.proofs.Common.{◌∷◌, ◌+◌, ◌<◌, take, length, ap, sym, ◌∙◌, arith, length-drop}
+use Rattle.snapshot_write.proofs.Blocks.{rest_is}
 use Rattle.out_text.specs.Reading.{parts_of}
-use Rattle.out_text.proofs.Ids.{first_part, no_comma, rest_is}
+use Rattle.out_text.proofs.Ids.{first_part, no_comma}
 use Rattle.out_text.proofs.reading.at_comma.Goals as goal
 
 pub returns-in_err-comma-clause-none : goal.returns-in_err-comma-clause-none

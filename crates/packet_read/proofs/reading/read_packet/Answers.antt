@@ -1,6 +1,7 @@
 use Rattle.std.proofs.Common.{◌∙◌, sym, arith}
 use Rattle.std.proofs.lemmas.Grind.{common_steps}
-use Rattle.packet_read.proofs.Rules.{bytes_are, found_spells, spelled_read, read_cause, cause_read}
+use Rattle.byte_lists.proofs.Bytes.{bytes_are}
+use Rattle.packet_read.proofs.Rules.{found_spells, spelled_read, read_cause, cause_read}
 use Rattle.packet_read.proofs.reading.read_packet.Goals as goal
 
 pub returns-in-1-clause-answer : goal.returns-in-1-clause-answer

@@ -1,5 +1,6 @@
 use Rattle.std.proofs.Common.{◌∙◌, sym, arith}
-use Rattle.snapshot_write.proofs.Rules.{bytes_are, found_spells, spelled_read, read_cause, cause_read}
+use Rattle.byte_lists.proofs.Bytes.{bytes_are}
+use Rattle.snapshot_write.proofs.Rules.{found_spells, spelled_read, read_cause, cause_read}
 use Rattle.snapshot_write.proofs.reading.read_snapshot.Goals as goal
 
 pub returns-clause-found : goal.returns-clause-found

@@ -1,6 +1,6 @@
 use Rattle.std.proofs.Common.{ap, ◌∙◌}
+use Rattle.arena_geo.proofs.Strips.{read_x, read_y}
 use Rattle.arena_actions.specs.Indexes.{strip_of}
-use Rattle.arena_actions.proofs.Indexing.{read_x, read_y}
 use Rattle.arena_actions.proofs.solid_index.SolidIndex.look.Goals as goal
 
 pub returns-clause-value : goal.returns-clause-value

@@ -1,7 +1,8 @@
 use Rattle.std.proofs.Common.{◌≡◌, ◌<◌, ℕ, slice_index_or, sym, ap, ◌∙◌, subst}
 use Rattle.std.proofs.lemmas.List.{get_or_default}
 use Rattle.arena_geo.specs.Bounds.{Bounds}
-use Rattle.arena_actions.proofs.Indexing.{one_more, read_x, read_y}
+use Rattle.arena_geo.proofs.Strips.{read_x, read_y}
+use Rattle.arena_actions.proofs.Indexing.{one_more}
 use Rattle.arena_actions.proofs.solid_index.SolidIndex.new.Goals as goal
 
 pub loop-i-preserved : goal.loop-i-preserved

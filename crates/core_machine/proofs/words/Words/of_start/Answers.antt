@@ -5,8 +5,8 @@ use Rattle.core_steps.specs.Views.{has}
 use Rattle.core_steps.specs.Stands.{is_player, start_words}
 use Rattle.core_seats.specs.Shown.{fixed_of}
 use Rattle.core_machine.specs.Tables.{within}
-use Rattle.core_steps.proofs.StartWords.{dead_record, dead_player, words_if_live, state_if_live}
-use Rattle.core_machine.proofs.StartRecords.{all_within, all_rows, zeros, zeros_at, same_words}
+use Rattle.core_steps.proofs.StartWords.{dead_record, dead_player, words_if_live, state_if_live, zeros_at, zeros}
+use Rattle.core_machine.proofs.StartRecords.{all_within, all_rows, same_words}
 use Rattle.core_machine.proofs.words.Words.of_start.Goals as goal
 
 pub returns : goal.returns

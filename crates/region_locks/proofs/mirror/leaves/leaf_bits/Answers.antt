@@ -1,11 +1,9 @@
 use Rattle.std.proofs.Common.{arith, sym, ◌∙◌, ap, subst, ℕ, Bool, ◌<◌, ◌≤◌, ◌^◌, ◌+◌, ◌-◌, if◌then◌else◌}
 use Rattle.std.proofs.Math.Nat.{pow-le-pow_right}
-use Rattle.areanode.specs.Words.{word_of}
 use Rattle.areanode.specs.Trees.{leaf_node}
 use Rattle.areanode.specs.declared.sizes.TheConstants.{MOST_LEAVES}
-use Rattle.areanode.proofs.Words.{word_of-below}
+use Rattle.areanode.proofs.Words.{word_of-below, word_none, word_next}
 use Rattle.core_steps.specs.Views.{has}
-use Rattle.ruled_words.proofs.Worlds.{word_none, word_next}
 use Rattle.region_locks.proofs.mirror.leaves.leaf_bits.Goals as goal
 
 pub with_top_bit-word-requires-clause-below : goal.with_top_bit-word-requires-clause-below

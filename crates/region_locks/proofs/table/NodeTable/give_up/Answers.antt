@@ -1,6 +1,7 @@
 use Rattle.std.proofs.Common.{length, sym, ◌∙◌}
 use Rattle.ruled_words.specs.Passes.{fixed_in}
-use Rattle.region_locks.proofs.GivingUp.{given_next, gives_on, gives_fewer, begins_giving, has_given_up, not_some}
+use Rattle.core_steps.proofs.Quiet.{no_some}
+use Rattle.region_locks.proofs.GivingUp.{given_next, gives_on, gives_fewer, begins_giving, has_given_up}
 use Rattle.region_locks.proofs.table.NodeTable.give_up.Goals as goal
 
 pub loop-node-init : goal.loop-node-init
@@ -24,4 +25,4 @@ loop-node-preserved g c =
 pub returns-clause-given_up : goal.returns-clause-given_up
 returns-clause-given_up g c =
     has_given_up (fixed_in g.A.Action.meaning c.args.self.now) (length c.args.self.now.rooms) c.args.self.now.table c.args.pass.now c.loop-node.pass
-    (sym c.first_held.ensures ∙ not_some c.first_held.result c.in_default.not-Some) c.loop-node.invariant
+    (sym c.first_held.ensures ∙ no_some c.first_held.result c.in_default.not-Some) c.loop-node.invariant

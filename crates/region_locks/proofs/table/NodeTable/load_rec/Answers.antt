@@ -1,9 +1,10 @@
-use Rattle.std.proofs.Common.{◌≡◌, ◌+◌, ◌<◌, ◌++◌, ◌∷◌, [], ℕ, List, length, sym, ap, ◌∙◌, subst, arith}
+use Rattle.std.proofs.Common.{◌≡◌, ◌+◌, ◌<◌, ◌++◌, ◌∷◌, ℕ, List, [], length, sym, ap, ◌∙◌, subst, arith}
 use Rattle.core_steps.specs.Cells.{cell_of, cell_index}
 use Rattle.core_steps.specs.Views.{record_read}
+use Rattle.core_steps.proofs.Owned.{longer}
 use Rattle.ruled_words.specs.Passes.{fixed_in}
 use Rattle.ruled_words.specs.Loads.{IsLoading}
-use Rattle.ruled_words.proofs.Loads.{load_next, loading_none, loading_more, has_loaded, one_more}
+use Rattle.ruled_words.proofs.Loads.{load_next, loading_none, loading_more, has_loaded}
 use Rattle.region_locks.proofs.table.NodeTable.load_rec.Goals as goal
 
 pub step_word-requires-clause-index : goal.step_word-requires-clause-index
@@ -33,7 +34,7 @@ loop-k-preserved g c =
     let more : IsLoading (fixed_in g.A.Action.meaning c.args.self.now) (length c.args.self.now.rooms) c.args.self.now.table c.args.pass.now c.step_word.new.pass c.args.slot (words ++ c.step_word.result ∷ []) =
     loading_more _ _ _ _ c.loop-k.pass c.step_word.new.pass c.args.slot words c.step_word.result is.0 below c.step_word.ensures.pass c.step_word.ensures.own c.step_word.ensures.taken in (
       subst (IsLoading (fixed_in g.A.Action.meaning c.args.self.now) (length c.args.self.now.rooms) c.args.self.now.table c.args.pass.now c.step_word.new.pass c.args.slot) (sym c.push.ensures.items) more,
-      ap (λ (xs : List ℕ). length xs) c.push.ensures.items ∙ one_more words c.step_word.result ∙ ap (λ (n : ℕ). n + 1) is.1,
+      ap (λ (xs : List ℕ). length xs) c.push.ensures.items ∙ longer words c.step_word.result ∙ ap (λ (n : ℕ). n + 1) is.1,
     )
 
 pub returns-clause-loaded : goal.returns-clause-loaded

@@ -1,7 +1,7 @@
 use Rattle.std.proofs.Common.{length}
 use Rattle.ruled_words.specs.Passes.{fixed_in, next_of_pass}
+use Rattle.ruled_words.proofs.Owns.{resolving_is}
 use Rattle.region_locks.specs.declared.turn.Turn.TheVariants.{Resolve}
-use Rattle.region_locks.proofs.Turns.{resolving_is}
 use Rattle.region_locks.proofs.Followed.{asked}
 use Rattle.region_locks.proofs.Onward.{resolve_call, resolve_step}
 use Rattle.region_locks.proofs.table.NodeTable.resolve_loaded.Goals as goal

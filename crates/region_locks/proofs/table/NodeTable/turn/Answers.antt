@@ -1,7 +1,8 @@
 use Rattle.std.proofs.Common.{ap, ◌∙◌, sym, length, Option, is_some}
 use Rattle.ruled_words.specs.Passes.{PassView, fixed_in}
+use Rattle.ruled_words.proofs.Owns.{resolving_is}
 use Rattle.region_locks.specs.declared.turn.Turn.{Turn}
-use Rattle.region_locks.proofs.Turns.{resolving_is, turn_found, turn_exists}
+use Rattle.region_locks.proofs.Turns.{turn_found, turn_exists}
 use Rattle.region_locks.proofs.table.NodeTable.turn.Goals as goal
 
 pub resolved_turn-requires-clause-read : goal.resolved_turn-requires-clause-read

@@ -1,8 +1,9 @@
-use Rattle.std.proofs.Common.{◌+◌, ◌<◌, ◌++◌, ◌∷◌, [], ℕ, List, length, sym, ap, ◌∙◌, subst, arith}
+use Rattle.std.proofs.Common.{◌+◌, ◌<◌, ◌++◌, ◌∷◌, ℕ, List, [], length, sym, ap, ◌∙◌, subst, arith}
 use Rattle.core_steps.specs.Cells.{cell_of, cell_index}
+use Rattle.core_steps.proofs.Owned.{longer}
 use Rattle.ruled_words.specs.Passes.{fixed_in, next_of_pass}
 use Rattle.ruled_words.specs.Loads.{IsLoading}
-use Rattle.ruled_words.proofs.Loads.{load_next, loads_there, loading_none, loading_more, one_more}
+use Rattle.ruled_words.proofs.Loads.{load_next, loads_there, loading_none, loading_more}
 use Rattle.ruled_words.proofs.shared_words.SharedWords.load_player_words.Goals as goal
 
 pub step_hand-requires-clause-comes : goal.step_hand-requires-clause-comes
@@ -38,5 +39,5 @@ loop-k-preserved g c =
     let more : IsLoading (fixed_in g.A.Action.meaning c.args.self.now) (length c.args.self.now.rooms) c.args.self.now.table c.args.hand.now c.step_hand.new.hand c.args.slot (words ++ c.step_hand.result ∷ []) =
     loading_more _ _ _ _ c.loop-k.hand c.step_hand.new.hand c.args.slot words c.step_hand.result is.0 below c.step_hand.ensures.pass c.step_hand.ensures.own c.step_hand.ensures.taken in (
       subst (IsLoading (fixed_in g.A.Action.meaning c.args.self.now) (length c.args.self.now.rooms) c.args.self.now.table c.args.hand.now c.step_hand.new.hand c.args.slot) (sym c.push.ensures.items) more,
-      ap (λ (xs : List ℕ). length xs) c.push.ensures.items ∙ one_more words c.step_hand.result ∙ ap (λ (n : ℕ). n + 1) is.1,
+      ap (λ (xs : List ℕ). length xs) c.push.ensures.items ∙ longer words c.step_hand.result ∙ ap (λ (n : ℕ). n + 1) is.1,
     )

@@ -1,10 +1,10 @@
-use Rattle.std.proofs.Common.{◌≡◌, ◌+◌, ◌<◌, ◌++◌, ◌∷◌, [], ℕ, List, length, sym, ap, ◌∙◌, arith, is_some, Option}
+use Rattle.std.proofs.Common.{◌≡◌, ◌+◌, ◌<◌, ◌++◌, ◌∷◌, ℕ, List, [], length, sym, ap, ◌∙◌, arith, is_some, Option}
 use Rattle.entity_recs.specs.Commands.{command_of}
 use Rattle.core_steps.specs.Cells.{cell_of, cell_index}
 use Rattle.core_steps.specs.Machine.{Next, index_of}
+use Rattle.core_steps.proofs.Owned.{longer}
 use Rattle.core_seats.specs.Nexts.{the_next}
 use Rattle.ruled_words.specs.Passes.{PassView, fixed_in, next_of_pass, pass_after, word_after}
-use Rattle.ruled_words.proofs.Loads.{one_more}
 use Rattle.ruled_words.proofs.LoadedWords.{own_at, own_comes, own_index, own_left, own_more, own_begun, own_whole}
 use Rattle.ruled_words.proofs.shared_words.SharedWords.own_words.Goals as goal
 
@@ -50,7 +50,7 @@ loop-k-preserved g c =
       c.step_hand.ensures.pass ∙ ap (λ (q : PassView). pass_after F (the_next (next_of_pass F q)) c.step_hand.result q) is.1
           ∙ own_more F c.args.hand.now (command_of c.args.cmd.now) words c.step_hand.result below
           ∙ ap (own_at F c.args.hand.now (command_of c.args.cmd.now)) (sym c.push-in-loop-k.ensures.items),
-      ap (λ (xs : List ℕ). length xs) c.push-in-loop-k.ensures.items ∙ one_more words c.step_hand.result ∙ ap (λ (n : ℕ). n + 1) is.2,
+      ap (λ (xs : List ℕ). length xs) c.push-in-loop-k.ensures.items ∙ longer words c.step_hand.result ∙ ap (λ (n : ℕ). n + 1) is.2,
     )
 
 pub returns-clause-view : goal.returns-clause-view
