@@ -72,13 +72,6 @@ lift-long lo hi rise speed is =
       positive-long 4 2560 speed is.4 is.5 (omega arith) (omega arith) (omega arith),
     )
 
--- ---- lines
-
--- room for these lines
-abbrev pub room_of_lines : List MapLine → ℕ
-room_of_lines [] = 0
-room_of_lines (line ∷ lines) = room_of_line line + room_of_lines lines
-
 fields-long : (line : MapLine) → IsWithinLimits line → length (word_text (word_of line)) + length (fields_text line) + 1 ≤ room_of_line line
 fields-long (Arena lo hi) is = omega (arith, corners-long lo hi is.0 is.1)
 fields-long (Block lo hi) is = omega (arith, corners-long lo hi is.0 is.1)
@@ -90,6 +83,13 @@ fields-long (Goal lo hi) is = omega (arith, corners-long lo hi is.0 is.1)
 fields-long (Lift lo hi rise speed) is = omega (arith, lift-long lo hi rise speed is)
 fields-long (Depth depth) is = omega (arith, length-decimal-le 1 depth (omega arith) (omega (arith, is.most)) (omega (arith, is.most)))
 fields-long Shots is = omega arith
+
+-- ---- lines
+
+-- room for these lines
+abbrev pub room_of_lines : List MapLine → ℕ
+room_of_lines [] = 0
+room_of_lines (line ∷ lines) = room_of_line line + room_of_lines lines
 
 pub lines-long : (lines : List MapLine) → AllByRecursion IsWithinLimits lines → length (lines_text lines) ≤ room_of_lines lines
 lines-long [] each = omega arith
