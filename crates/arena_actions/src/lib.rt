@@ -28,5 +28,3 @@ mod shot_action;
 mod sizes;
 mod solid_index;
 mod strips;
-#[cfg(test)]
-mod tests;

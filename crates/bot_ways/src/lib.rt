@@ -21,7 +21,5 @@ mod plan;
 mod plan_stop;
 mod plan_text;
 mod search;
-#[cfg(test)]
-mod tests;
 mod walk_text;
 mod writing;

@@ -24,5 +24,3 @@ mod receive;
 mod received;
 mod refusal;
 mod spawns;
-#[cfg(test)]
-mod tests;

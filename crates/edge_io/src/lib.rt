@@ -27,6 +27,4 @@ mod sink;
 mod source;
 mod std_sink;
 mod std_source;
-#[cfg(test)]
-mod tests;
 mod whole;

@@ -11,5 +11,3 @@ pub mod StartWorlds
 pub mod Journals
 pub mod SmallNumbers
 pub mod ArenaMoves
-pub mod TestWorlds
-pub mod TakenPlayers

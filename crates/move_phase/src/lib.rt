@@ -8,6 +8,4 @@ mod numbers;
 mod rooms;
 mod serve;
 mod started;
-#[cfg(test)]
-mod tests;
 mod workers;

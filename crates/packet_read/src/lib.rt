@@ -27,6 +27,3 @@ pub use packet_fault::PacketFault;
 pub use reading::read_packet;
 pub use steps_packet::StepsPacket;
 pub use writing::write_packet;
-
-#[cfg(test)]
-mod tests;

@@ -19,6 +19,4 @@ mod reply_buf;
 mod seen;
 mod snap_fault;
 mod snapshot;
-#[cfg(test)]
-mod tests;
 mod writing;

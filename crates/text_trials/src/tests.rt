@@ -3,3 +3,4 @@ mod lines;
 mod maps;
 mod recordings;
 mod totals;
+mod ways;

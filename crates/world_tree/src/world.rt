@@ -253,6 +253,3 @@ impl World {
         !body.is_blocked(fixed) && !is_blocked_by_solids(&self.records, body, except)
     }
 }
-
-#[cfg(test)]
-mod tests;

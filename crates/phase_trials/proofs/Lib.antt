@@ -1,0 +1,3 @@
+-- What the tests of moves know of their worlds, and the players that an action takes.
+pub mod TestWorlds
+pub mod TakenPlayers

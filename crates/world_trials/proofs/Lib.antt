@@ -1,0 +1,2 @@
+-- Lemmas on records that are known.
+pub mod RisingIds
