@@ -1,6 +1,5 @@
 use Rattle.std.proofs.Common.{◌≡◌, true, arith}
 use Rattle.std.proofs.lemmas.List.Elements.{All-nil}
-use Rattle.arena_geo.specs.Boxes.{contains}
 use Rattle.entity_recs.specs.declared.rec.Rec.{Rec}
 use Rattle.arena_actions.specs.Takes.{takes}
 use Rattle.arena_actions.specs.Lawful.Taking.{player_is_taken}
