@@ -1,6 +1,4 @@
 mod generated;
 mod lines;
-mod maps;
 mod recordings;
 mod totals;
-mod ways;

@@ -1,40 +1,17 @@
-ghost use Rattle.std.specs.Prelude.{IfOk};
-ghost use Rattle.arena_map.specs.MapLines.{IsWithinLimits};
-
-use arena_map::{ArenaMap, MapLine, read_map_line};
+use super::{ARENA, begun, rule_of};
+use arena_map::ArenaMap;
 use bot_ways::{LeastList, MOST_WAYPOINTS, WayList, plan_way};
-use edge_io::cut;
 use std::alloc::Global;
 use std::process::Abort;
 use std::test::Fail;
 
-/// The arena of all rows.
-const ARENA: &[u8] = b"arena -131072 -131072 0 131072 131072 65536";
-
-/// What a map line says.
-fn read(text: &[u8]) -> Result<MapLine, &'static str>
-    ensures { IfOk result IsWithinLimits }
-{
-    let (word, _) = cut(text);
-    if word == b"frame".as_slice() || word == b"from".as_slice() || word == b"end".as_slice() {
-        return Err("a map line");
-    }
-    read_map_line(text).map_err(|_| "a line")
-}
-
 /// The map of the arena and these lines.
 fn map_of(alloc: Global, lines: &[&[u8]]) -> Result<ArenaMap, &'static str> {
-    let arena = read(ARENA)?;
-    let MapLine::Arena { .. } = arena else {
-        return Err("an arena");
-    };
-    let mut map = ArenaMap::new(alloc, &arena).map_err(|_| "a map")?;
+    let mut map = begun(alloc, ARENA)?;
     for text in lines {
-        let line = read(text)?;
-        if let MapLine::Arena { .. } = line {
-            return Err("no arena");
+        if rule_of(&mut map, text)? != 0 {
+            return Err("a line of the map");
         }
-        map.add(&line).map_err(|_| "a line of the map")?;
     }
     Ok(map)
 }
