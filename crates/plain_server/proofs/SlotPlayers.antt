@@ -4,8 +4,8 @@ use Rattle.entity_recs.specs.declared.kind.Kind.{Kind}
 use Rattle.entity_recs.specs.declared.kind.Kind.TheVariants.{Player, Ammo, Gem, Teleporter, Goal, Lift}
 use Rattle.entity_recs.specs.declared.rec.Rec.{Rec}
 use Rattle.entity_recs.specs.Records.{IsIdOf}
+use Rattle.entity_recs.specs.Kinds.{is_player}
 use Rattle.world_tree.specs.Live.{record_at, live_in, AreEntries}
-use Rattle.world_physics.specs.LiftSteps.{is_player}
 use Rattle.world_physics.proofs.Finding.{kind_past}
 use Rattle.plain_server.specs.Replies.{players_in}
 

@@ -2,8 +2,8 @@
 use Rattle.std.specs.Prelude.{ℕ, List, filter, Option}
 use Rattle.std.specs.Prelude.{map as map_list}
 use Rattle.entity_recs.specs.declared.rec.Rec.{Rec}
+use Rattle.entity_recs.specs.Kinds.{is_player}
 use Rattle.world_tree.specs.Live.{live_in}
-use Rattle.world_physics.specs.LiftSteps.{is_player}
 use Rattle.snapshot_write.specs.Snapshots.{snapshot}
 
 -- the live players in rising slot

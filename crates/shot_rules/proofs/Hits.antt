@@ -12,7 +12,7 @@ use Rattle.arena_geo.specs.Boxes.{overlaps, is_blocked}
 use Rattle.entity_recs.specs.declared.kind.Kind.{Kind}
 use Rattle.entity_recs.specs.declared.kind.Kind.TheVariants.{Player, Ammo, Gem, Teleporter, Goal, Lift}
 use Rattle.entity_recs.specs.declared.rec.Rec.{Rec}
-use Rattle.entity_recs.specs.Kinds.{is_solid}
+use Rattle.entity_recs.specs.Kinds.{is_solid, is_player}
 use Rattle.entity_recs.specs.Bodies.{body_of}
 use Rattle.entity_recs.specs.Commands.{Command}
 use Rattle.box_trace.specs.Steps.{step_count, body_at}
@@ -21,7 +21,7 @@ use Rattle.box_trace.proofs.Traces.{IsTrace-trace_of}
 use Rattle.box_trace.proofs.Stops.{next_of_way}
 use Rattle.trigger_rules.specs.Touching.{Walk, bodies_of_solids, new_state}
 use Rattle.shot_rules.specs.Targets.{is_set, shot_box, has_aim, way_along, is_in_way, stopper_at, target_of}
-use Rattle.shot_rules.specs.Shots.{with_shot_spent, may_fire, is_fired, is_player, stands, fells, state_after_hit, with_point, after_hit, after_meeting, spent, shot, after_shot}
+use Rattle.shot_rules.specs.Shots.{with_shot_spent, may_fire, is_fired, stands, fells, state_after_hit, with_point, after_hit, after_meeting, spent, shot, after_shot}
 use Rattle.shot_rules.specs.Laws.{ShotsTakeAmmunition, IsShooterAfter, ShootersStayThemselves, IsHit, IsShot, Misses, Hits, HitsAreInTheWay, HasOneMore, AtMostOneIsHit, WhoIsFirstIsMet, DamageGrows, IsSameWay, OnlyTheWayMatters}
 use Rattle.shot_rules.proofs.Stoppers.{blocked_by_all}
 use Rattle.shot_rules.proofs.Nearest.{met_after, target_is}

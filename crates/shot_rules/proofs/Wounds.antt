@@ -6,9 +6,10 @@ use Rattle.entity_recs.specs.declared.kind.Kind.{Kind}
 use Rattle.entity_recs.specs.declared.kind.Kind.TheVariants.{Player}
 use Rattle.entity_recs.specs.declared.rec.Rec.{Rec}
 use Rattle.entity_recs.specs.Commands.{Command}
+use Rattle.entity_recs.specs.Kinds.{is_player}
 use Rattle.trigger_rules.specs.Touching.{Walk}
 use Rattle.shot_rules.specs.Targets.{shot_box, way_along}
-use Rattle.shot_rules.specs.Shots.{is_fired, is_player, stands, with_shot_spent, with_point, state_after_hit, after_hit, after_meeting, spent, after_shot}
+use Rattle.shot_rules.specs.Shots.{is_fired, stands, with_shot_spent, with_point, state_after_hit, after_hit, after_meeting, spent, after_shot}
 use Rattle.shot_rules.specs.Laws.{IsFirstInTheWay, IsHitDone, WhoStandsFirstIsHit}
 use Rattle.shot_rules.proofs.Hits.{fired_is, first_is_met}
 

@@ -3,10 +3,9 @@ use Rattle.std.specs.Prelude.{ℕ, ◌+◌, ◌-◌, min, nat_lt, nat_le, Bool, 
 use Rattle.std.specs.Prelude.{◌∷◌, ◌++◌, length, Option, Some, None}
 use Rattle.arena_geo.specs.Bounds.{Bounds}
 use Rattle.entity_recs.specs.declared.lists.TheConstants.{LIST_LEN}
-use Rattle.entity_recs.specs.declared.kind.Kind.{Kind}
-use Rattle.entity_recs.specs.declared.kind.Kind.TheVariants.{Player}
 use Rattle.entity_recs.specs.declared.rec.Rec.{Rec}
 use Rattle.entity_recs.specs.Commands.{Command}
+use Rattle.entity_recs.specs.Kinds.{is_player}
 use Rattle.trigger_rules.specs.Touching.{Walk, walk_of, new_state}
 use Rattle.shot_rules.specs.declared.numbers.TheConstants.{FIRE, LEAPT_BIT, DAMAGE, DOWN, FRAMES_DOWN}
 use Rattle.shot_rules.specs.Targets.{is_set, shot_box, has_aim, way_along, target_of}
@@ -30,11 +29,6 @@ abbrev pub is_fired : Command → Walk → Bool
 is_fired c w = may_fire c w.me w.got && has_aim c.wish_x c.wish_y
 
 -- ---- what a hit does
-
--- a player
-abbrev pub is_player : Kind → Bool
-is_player Player = true
-is_player _ = false
 
 -- the record is that of a player that a shot may hurt: one that isn't down, with a state below 100
 abbrev pub stands : Rec → Bool

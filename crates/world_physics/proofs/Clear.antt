@@ -9,7 +9,7 @@ use Rattle.arena_geo.proofs.Overlaps.{overlaps-flips}
 use Rattle.entity_recs.specs.declared.kind.Kind.{Kind}
 use Rattle.entity_recs.specs.declared.kind.Kind.TheVariants as kinds
 use Rattle.entity_recs.specs.declared.rec.Rec.{Rec}
-use Rattle.entity_recs.specs.Kinds.{is_solid}
+use Rattle.entity_recs.specs.Kinds.{is_solid, is_player}
 use Rattle.entity_recs.specs.Bodies.{body_of}
 use Rattle.arena_map.specs.declared.lift.Lift.{Lift}
 use Rattle.arena_map.specs.MapLines.{is_lift}
@@ -20,7 +20,7 @@ use Rattle.arena_map.proofs.ThingData.{live_records_have_data}
 use Rattle.world_tree.specs.Live.{record_at}
 use Rattle.world_physics.specs.declared.lift_step.LiftStep.{LiftStep}
 use Rattle.world_physics.specs.Returns.{each_changed, returned, after_returns}
-use Rattle.world_physics.specs.LiftSteps.{is_player, stands_on, is_carried, stays, is_in_the_way, is_stopped, raised, moved_along, after_step}
+use Rattle.world_physics.specs.LiftSteps.{stands_on, is_carried, stays, is_in_the_way, is_stopped, raised, moved_along, after_step}
 use Rattle.world_physics.specs.Ticks.{after_tick}
 use Rattle.world_physics.specs.Laws.{PlayersKeepRoom}
 use Rattle.world_physics.proofs.Changes.{was_before}

@@ -9,9 +9,10 @@ use Rattle.entity_recs.specs.declared.rec.Rec.{Rec}
 use Rattle.entity_recs.specs.declared.kind.Kind.{Kind}
 use Rattle.entity_recs.specs.declared.kind.Kind.TheVariants as kinds
 use Rattle.entity_recs.specs.Records.{IsIdOf}
+use Rattle.entity_recs.specs.Kinds.{is_player}
 use Rattle.world_tree.specs.Live.{record_at, live_in, IsEntry}
 use Rattle.world_physics.specs.declared.lift_step.LiftStep.{LiftStep}
-use Rattle.world_physics.specs.LiftSteps.{is_player, is_carried}
+use Rattle.world_physics.specs.LiftSteps.{is_carried}
 
 -- a live record that passes is found
 pub found : (p : Rec → Bool) (records : List (Option Rec)) (id : ℕ) (r : Rec) → record_at records id ≡ Some r → p r ≡ true → list_any p (live_in records) ≡ true

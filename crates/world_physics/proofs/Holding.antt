@@ -10,7 +10,7 @@ use Rattle.arena_geo.specs.Boxes.{overlaps, moved, is_blocked}
 use Rattle.entity_recs.specs.declared.kind.Kind.{Kind}
 use Rattle.entity_recs.specs.declared.kind.Kind.TheVariants as kinds
 use Rattle.entity_recs.specs.declared.rec.Rec.{Rec}
-use Rattle.entity_recs.specs.Kinds.{is_solid, is_item}
+use Rattle.entity_recs.specs.Kinds.{is_solid, is_item, is_player}
 use Rattle.entity_recs.specs.Bodies.{body_of}
 use Rattle.arena_map.specs.declared.lift.Lift.{Lift}
 use Rattle.arena_map.specs.Places.{upwards}
@@ -18,7 +18,7 @@ use Rattle.arena_map.specs.Maps.{MapView, IsMap, entities_of, lift_of, solids_of
 use Rattle.arena_map.specs.Validity.{IsValidWorld}
 use Rattle.world_tree.specs.Live.{record_at, live_in}
 use Rattle.world_physics.specs.Returns.{each_changed, returned, after_returns}
-use Rattle.world_physics.specs.LiftSteps.{is_player, carried_along, is_carried, stays, is_in_the_way, is_obstructed, is_pressed, is_stopped, raised, distance_up, lift_after, moved_along, step_of, after_step}
+use Rattle.world_physics.specs.LiftSteps.{carried_along, is_carried, stays, is_in_the_way, is_obstructed, is_pressed, is_stopped, raised, distance_up, lift_after, moved_along, step_of, after_step}
 use Rattle.world_physics.specs.Ticks.{after_lift, after_thing, after_things, after_tick}
 use Rattle.world_physics.specs.Laws.{goes_with, GoesAlong, MeetsOther, HasNoRoom, IsHeld, StepsUnlessHeld, OnlyPlayersHoldLifts, IsMade, IsTurn, IsTurnOf, AreTurns, LiftsStepInTurn}
 use Rattle.world_physics.proofs.Changes.{at-changed, was_before}

@@ -9,7 +9,7 @@ use Rattle.std.proofs.lemmas.Option.{same_Some, slice_get_within}
 use Rattle.entity_recs.specs.declared.kind.Kind.{Kind}
 use Rattle.entity_recs.specs.declared.kind.Kind.TheVariants as kinds
 use Rattle.entity_recs.specs.declared.rec.Rec.{Rec}
-use Rattle.entity_recs.specs.Kinds.{is_item}
+use Rattle.entity_recs.specs.Kinds.{is_item, is_player}
 use Rattle.arena_map.specs.declared.lift.Lift.{Lift}
 use Rattle.arena_map.specs.declared.map_line.MapLine.{MapLine}
 use Rattle.arena_map.specs.MapLines.{is_thing_line}
@@ -21,7 +21,7 @@ use Rattle.arena_map.proofs.Opening.{found-in}
 use Rattle.arena_map.proofs.ThingRecords.{own-id}
 use Rattle.world_tree.specs.Live.{record_at}
 use Rattle.world_physics.specs.Returns.{each_changed, returned, after_returns}
-use Rattle.world_physics.specs.LiftSteps.{is_player, is_carried, is_stopped, raised, distance_up, lift_after, moved_along, carried_along, step_of, after_step}
+use Rattle.world_physics.specs.LiftSteps.{is_carried, is_stopped, raised, distance_up, lift_after, moved_along, carried_along, step_of, after_step}
 use Rattle.world_physics.specs.Ticks.{after_lift, after_thing, after_things, after_tick}
 use Rattle.world_physics.specs.Laws.{goes_with, GoesAlong, IsOnlyLift, PlayersGoAlong}
 use Rattle.world_physics.proofs.Changes.{at-changed}

@@ -11,7 +11,7 @@ use Rattle.entity_recs.specs.declared.kind.Kind.TheVariants as kinds
 use Rattle.entity_recs.specs.declared.rec.Rec.{Rec}
 use Rattle.entity_recs.specs.Records.{IsIdOf, with_state}
 use Rattle.entity_recs.specs.Bodies.{body_of}
-use Rattle.entity_recs.specs.Kinds.{is_item}
+use Rattle.entity_recs.specs.Kinds.{is_item, is_player}
 use Rattle.arena_map.specs.declared.lift.Lift.{Lift}
 use Rattle.arena_map.specs.Places.{upwards}
 use Rattle.arena_map.specs.Maps.{MapView, IsMap, entities_of, lift_of, solids_of}
@@ -19,7 +19,7 @@ use Rattle.arena_map.specs.Validity.{IsSameLift, IsAsItsLine, IsThing, IsStateOn
 use Rattle.world_tree.specs.Live.{record_at}
 use Rattle.world_physics.specs.declared.lift_step.LiftStep.{LiftStep}
 use Rattle.world_physics.specs.Returns.{each_changed, is_due, returned, after_returns}
-use Rattle.world_physics.specs.LiftSteps.{is_player, is_carried, stands_on, is_obstructed, is_pressed, is_stopped, raised, moved_along, after_step, HasRoom}
+use Rattle.world_physics.specs.LiftSteps.{is_carried, stands_on, is_obstructed, is_pressed, is_stopped, raised, moved_along, after_step, HasRoom}
 use Rattle.world_physics.proofs.Changes.{at-changed, was_before}
 use Rattle.world_physics.proofs.Finding.{not_found}
 use Rattle.world_physics.proofs.Raised.{raised_is_valid}

@@ -7,10 +7,8 @@ use Rattle.std.specs.Int.{int_min, int_max}
 use Rattle.arena_geo.specs.Vectors.{vector}
 use Rattle.arena_geo.specs.Bounds.{Bounds}
 use Rattle.arena_geo.specs.Boxes.{moved, overlaps, is_blocked}
-use Rattle.entity_recs.specs.declared.kind.Kind.{Kind}
-use Rattle.entity_recs.specs.declared.kind.Kind.TheVariants as kinds
 use Rattle.entity_recs.specs.declared.rec.Rec.{Rec}
-use Rattle.entity_recs.specs.Kinds.{is_solid}
+use Rattle.entity_recs.specs.Kinds.{is_solid, is_player}
 use Rattle.entity_recs.specs.Records.{IsRecord}
 use Rattle.entity_recs.specs.Bodies.{body_of}
 use Rattle.arena_map.specs.declared.lift.Lift.{Lift}
@@ -74,11 +72,6 @@ pub record IsStep (step : LiftStep) : Type 0 where
   pub far : unsigned_abs step.up ≤ 2560
 
 -- ---- whom it carries, and what stops it
-
--- the kind is a player's
-abbrev pub is_player : Kind → Bool
-is_player kinds.Player = true
-is_player _ = false
 
 -- the player stands on the lift: its body, moved down by 1, overlaps the lift
 abbrev pub stands_on : Rec → Rec → Bool
