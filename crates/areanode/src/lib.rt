@@ -17,6 +17,4 @@ mod ancestors;
 mod cut;
 mod laws;
 mod sizes;
-#[cfg(test)]
-mod tests;
 mod tree;

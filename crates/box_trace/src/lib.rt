@@ -20,8 +20,6 @@ mod hit;
 mod laws;
 mod meeting;
 mod span;
-#[cfg(test)]
-mod tests;
 mod walls;
 mod way;
 mod window;

@@ -4,6 +4,7 @@
 
 pub use errand::Errand;
 pub use places::{ARRIVAL, ITEM};
+pub use staying::Staying;
 pub use taking::is_taken;
 
 mod errand;
@@ -18,7 +19,6 @@ mod players;
 mod rows;
 #[cfg(test)]
 mod schedule;
-#[cfg(test)]
 mod staying;
 mod taking;
 #[cfg(test)]

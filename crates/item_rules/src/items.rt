@@ -47,6 +47,3 @@ pub fn take_item(me: &mut Rec, item: &Rec, delay: u16, frame: u32) -> Option<u64
     }
     Some(u64::from(frame) + u64::from(delay))
 }
-
-#[cfg(test)]
-mod tests;

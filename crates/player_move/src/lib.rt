@@ -19,7 +19,5 @@ mod limits;
 mod moved;
 mod moving;
 mod stairs;
-#[cfg(test)]
-mod tests;
 mod velocity;
 mod walk;

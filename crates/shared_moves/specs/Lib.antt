@@ -11,4 +11,3 @@ pub use Rattle.core_steps.specs.Views
 pub use Rattle.region_locks.specs.Moves
 pub use Rattle.region_locks.specs.Points
 pub use Rattle.region_locks.specs.Moments
-pub mod Trials

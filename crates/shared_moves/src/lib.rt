@@ -4,17 +4,5 @@
 pub use region_locks::{Again, Gate, GatePoint, Moment, NoGate};
 pub use shared::Shared;
 
-#[cfg(test)]
-mod beside;
-#[cfg(test)]
-mod root_tests;
 mod run;
 mod shared;
-#[cfg(test)]
-mod staying;
-#[cfg(test)]
-mod table_tests;
-#[cfg(test)]
-mod tests;
-#[cfg(test)]
-mod trial;

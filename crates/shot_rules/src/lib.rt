@@ -15,5 +15,3 @@ mod firing;
 mod laws;
 mod meeting;
 mod numbers;
-#[cfg(test)]
-mod tests;

@@ -21,5 +21,3 @@ mod arithmetic;
 mod constants;
 mod laws;
 mod rules;
-#[cfg(test)]
-mod tests;

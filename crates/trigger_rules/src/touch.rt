@@ -185,6 +185,3 @@ pub fn touch_all(
         }
     }
 }
-
-#[cfg(test)]
-mod tests;

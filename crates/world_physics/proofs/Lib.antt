@@ -19,5 +19,4 @@ pub mod OwnSteps
 pub mod Riders
 pub mod Holding
 pub mod Stillness
-pub mod Given
 pub mod Standing

@@ -13,6 +13,4 @@ mod laws;
 mod lift_step;
 mod pressing;
 mod returns;
-#[cfg(test)]
-mod tests;
 mod ticking;

@@ -2,6 +2,7 @@ ghost use Rattle.std.specs.Prelude.{◌≡◌, ◌≤◌, ◌+ℤ◌, ◌-ℤ◌
 ghost use Rattle.std.specs.Int.{w32, int_min, int_max};
 ghost use Rattle.arena_geo.specs.Boxes.{moved};
 ghost use Rattle.arena_map.specs.Places.{upwards};
+ghost use Rattle.entity_recs.specs.Kinds as kinds;
 ghost use Rattle.entity_recs.specs.Records.{IsRecord};
 ghost use Rattle.entity_recs.specs.Bodies.{body_of};
 ghost use Rattle.world_physics.specs.LiftSteps as steps;
@@ -106,7 +107,7 @@ pub fn raised_body(r: &Rec, up: i32) -> Aabb
 
 /// Whether the kind is a player's.
 fn is_player(kind: Kind) -> bool
-    ensures { result ≡ steps.is_player kind }
+    ensures { result ≡ kinds.is_player kind }
 {
     match kind {
         Kind::Player => true,

@@ -1,25 +1,20 @@
-ghost use Rattle.std.specs.Prelude.{◌≡◌, ◌<◌, ◌∷◌, [], true, length, All, IfOk, IfSome};
+ghost use Rattle.std.specs.Prelude.{◌≡◌, ◌<◌, ◌∷◌, [], true, length, All, IfOk};
 ghost use Rattle.entity_recs.specs.declared.kind.Kind.TheVariants.{Player};
 ghost use Rattle.entity_recs.specs.Records.{IsRecord, with_state};
 ghost use Rattle.arena_actions.specs.MapActions.{meaning_in};
 ghost use Rattle.world_tree.specs.Live.{live_in};
 ghost use Rattle.core_steps.specs.Views.{has};
-ghost use Rattle.core_steps.specs.Steps.{is_taking};
 ghost use Rattle.ruled_words.specs.Passes.{fixed_in, IsOwn};
-ghost use Rattle.region_locks.specs.Turns.{turn_of};
-ghost use Rattle.region_locks.specs.Quitting.{MayBegin};
-ghost use Rattle.region_locks.specs.Pursuits.{IsGoingOn};
-ghost use Rattle.shared_moves.specs.Trials.{IsFree, IsMoving, IsResting};
+ghost use Rattle.lock_trials.specs.Trials.{IsFree, IsMoving, IsResting};
 
 use super::{arena, at};
 use arena_actions::MapAction;
 use arena_geo::Vec3;
 use arena_map::{ArenaMap, MapLine, MapRefusal};
-use core_steps::{StepKind, node_word};
 use entity_recs::{Action, Cmd, Entry, Kind, PLAYER_MAXS, PLAYER_MINS, Rec, body_box};
-use move_journal::LogList;
-use region_locks::{Again, Holder, NoGate, NodeTable, Pass, PassList, Turn, Went};
-use std::alloc::{AllocError, AllocGlobal, Global};
+use lock_trials::{close_both, finish, give_up, go, ran, refused, table_of_two, take};
+use region_locks::{Again, Holder, NodeTable, Pass, Turn, Went};
+use std::alloc::{AllocGlobal, Global};
 use std::process::Abort;
 use std::test::Fail;
 use world_tree::World;
@@ -128,25 +123,6 @@ fn world_with(alloc: Global, action: &MapAction, damage: u64) -> Result<World, F
     Ok(World::new(alloc, map.bounds(), map.depth(), &start)?)
 }
 
-/// The table of a world with two passes, each with room for one entry.
-fn table_of_two<'a, A: Action>(
-    alloc: Global,
-    action: &'a A,
-    world: &World,
-) -> Result<(NodeTable<'a, A>, Pass<A>, Pass<A>), Fail>
-    requires taken { All (λ r. (A.meaning action.now).takes r ≡ true) (live_in world.now.records) }
-    ensures table { IfOk result (λ r. (r.0.action ≡ action.now) × (r.0.world ≡ world.now) × (length r.0.rooms ≡ 2)) }
-    ensures first { IfOk result (λ r. IsFree (fixed_in A.meaning r.0) (length r.0.rooms) r.0.table
-        0 r.1) }
-    ensures second { IfOk result (λ r. IsFree (fixed_in A.meaning r.0) (length r.0.rooms)
-        r.0.table 1 r.2) }
-{
-    let (table, mut passes) = NodeTable::new(alloc, action, world, &[1, 1])?;
-    let second = passes.pop().ok_or("two passes")?;
-    let first = passes.pop().ok_or("two passes")?;
-    Ok((table, first, second))
-}
-
 /// Gives pass 0 the first shooter's command: a shot towards lower x.
 fn begin<A: Action>(table: &NodeTable<A>, pass: &mut Pass<A>)
     requires two { length table.now.rooms ≡ 2 }
@@ -157,21 +133,6 @@ fn begin<A: Action>(table: &NodeTable<A>, pass: &mut Pass<A>)
         pass.new }
 {
     table.begin(pass, shot(0, -1));
-}
-
-/// Makes the pass's next call, which is to be none that is refused.
-fn go<A: Action>(table: &NodeTable<A>, pass: &mut Pass<A>, turn: Turn) -> Result<Went, Fail>
-    requires going { IsGoingOn (fixed_in A.meaning table.now) (length table.now.rooms)
-        table.now.table pass.old }
-    requires turn { turn_of (fixed_in A.meaning table.now) pass.old ≡ Some turn }
-    ensures going { IsGoingOn (fixed_in A.meaning table.now) (length table.now.rooms)
-        table.now.table pass.new }
-    ensures number { pass.new.number ≡ pass.old.number }
-{
-    match table.go_on(pass, turn) {
-        Ok(went) => Ok(went),
-        Err(_) => Err("a take was refused".into()),
-    }
 }
 
 /// Makes the calls of pass 0 up to the commit, and gives the entry. Nothing is written yet.
@@ -192,22 +153,6 @@ fn commit<A: Action>(table: &NodeTable<A>, pass: &mut Pass<A>) -> Result<Entry, 
     Err("no end".into())
 }
 
-/// Makes calls until pass 0 has no command in hand.
-fn finish<A: Action>(table: &NodeTable<A>, pass: &mut Pass<A>) -> Result<(), Fail>
-    requires { IsMoving (fixed_in A.meaning table.now) (length table.now.rooms) table.now.table 0
-        pass.old }
-    ensures { IfOk result (λ _. IsResting (fixed_in A.meaning table.now) (length table.now.rooms)
-        table.now.table 0 pass.new) }
-{
-    for _ in 0..MOST_CALLS {
-        let Some(turn) = table.turn(pass) else {
-            return Ok(());
-        };
-        go(table, pass, turn)?;
-    }
-    Err("no end".into())
-}
-
 /// Gives pass 1 the target's command, and loads the target's record.
 fn load_target<A: Action>(table: &NodeTable<A>, pass: &mut Pass<A>) -> Rec
     requires two { length table.now.rooms ≡ 2 }
@@ -219,44 +164,6 @@ fn load_target<A: Action>(table: &NodeTable<A>, pass: &mut Pass<A>) -> Rec
 {
     table.begin(pass, shot(3, 0));
     table.load_rec(pass, 3)
-}
-
-/// Takes this node, which is the pass's next step.
-fn take<A: Action>(
-    table: &NodeTable<A>,
-    pass: &mut Pass<A>,
-    node: u8,
-) -> Result<Option<Holder>, Fail>
-    requires { IsOwn A.meaning table.now
-        pass.old }
-    ensures own { IsOwn A.meaning table.now
-        pass.new }
-    ensures refused { IfOk result (λ r. IfSome r (λ h. is_taking pass.new.view.point ≡ true)) }
-{
-    let Some(step) = table.next(pass) else {
-        return Err("no step".into());
-    };
-    if step.word != node_word(node) {
-        return Err("another word".into());
-    }
-    match step.kind {
-        StepKind::Take => Ok(table.take(pass, node).err()),
-        _ => Err("not a take".into()),
-    }
-}
-
-/// The pass gives up its command, of which nothing is left.
-fn give_up<A: Action>(table: &NodeTable<A>, pass: &mut Pass<A>) -> Result<(), Fail>
-    requires own { IsOwn A.meaning table.now pass.old }
-    requires taking { is_taking pass.old.view.point ≡ true }
-    ensures own { IfOk result (λ _. IsOwn A.meaning table.now pass.new) }
-    ensures free { IfOk result (λ _. MayBegin pass.new) }
-{
-    table.quit(pass);
-    let None = table.next(pass) else {
-        return Err("a step".into());
-    };
-    Ok(())
 }
 
 /// The target's record as pass 1 finds it. The target's own move is refused its first leaf, which pass 0 holds, and is
@@ -285,36 +192,6 @@ fn target_now<A: Action>(
         return Err("another number".into());
     }
     Ok(target)
-}
-
-/// Tries the second shooter's command with pass 1, a shot towards higher x, and gives why it wasn't run.
-fn refused<A: Action>(table: &NodeTable<A>, pass: &mut Pass<A>) -> Result<Again, Fail>
-    requires two { length table.now.rooms ≡ 2 }
-    requires live { has (fixed_in A.meaning table.now).start.ids 1 ≡ true }
-    requires free { IsFree (fixed_in A.meaning table.now) (length table.now.rooms) table.now.table 1
-        pass.old }
-    ensures { IfOk result (λ _. IsFree (fixed_in A.meaning table.now) (length table.now.rooms)
-        table.now.table 1 pass.new) }
-{
-    match table.try_run(pass, shot(1, 1), &NoGate) {
-        Ok(_) => Err("the command was run".into()),
-        Err(again) => Ok(again),
-    }
-}
-
-/// Tries the same command, and gives its entry.
-fn ran<A: Action>(table: &NodeTable<A>, pass: &mut Pass<A>) -> Result<Entry, Fail>
-    requires two { length table.now.rooms ≡ 2 }
-    requires live { has (fixed_in A.meaning table.now).start.ids 1 ≡ true }
-    requires free { IsFree (fixed_in A.meaning table.now) (length table.now.rooms) table.now.table 1
-        pass.old }
-    ensures { IfOk result (λ _. IsResting (fixed_in A.meaning table.now) (length table.now.rooms)
-        table.now.table 1 pass.new) }
-{
-    match table.try_run(pass, shot(1, 1), &NoGate) {
-        Ok(entry) => Ok(entry),
-        Err(_) => Err("a node was held".into()),
-    }
 }
 
 /// An entry is of a move of 6 along x that ends here, and the target was hit, or nobody was.
@@ -365,7 +242,7 @@ fn hold_first<A: Action>(
         holder: 0,
         leaves: FIRST_LEAVES,
     };
-    assert_eq!(rt; refused(table, second)?, held);
+    assert_eq!(rt; refused(table, second, shot(1, 1))?, held);
     Ok(entry)
 }
 
@@ -392,44 +269,9 @@ fn shoot_both<A: Action>(
 {
     begin(table, first);
     let one = hold_first(rt, table, first, second, damage)?;
-    finish(table, first)?;
-    let two = ran(table, second)?;
+    let _place = finish(table, first)?;
+    let two = ran(table, second, shot(1, 1))?;
     Ok((one, two))
-}
-
-/// The two passes as a list.
-fn both<A: Action>(
-    alloc: Global,
-    first: Pass<A>,
-    second: Pass<A>,
-) -> Result<PassList<A>, AllocError>
-    ensures { IfOk result (λ passes. passes.items ≡ first ∷ second ∷ []) }
-{
-    let mut passes = Vec::with_capacity(alloc, 2)?;
-    passes.push_reserved(first);
-    passes.push_reserved(second);
-    Ok(passes)
-}
-
-/// Closes the table of two passes.
-fn close<A: Action>(
-    alloc: Global,
-    table: NodeTable<A>,
-    first: Pass<A>,
-    second: Pass<A>,
-    world: &mut World,
-) -> Result<(), Fail>
-    requires two { length table.rooms ≡ 2 }
-    requires first { IsResting (fixed_in A.meaning table) (length table.rooms) table.table 0
-        first }
-    requires second { IsResting (fixed_in A.meaning table) (length table.rooms) table.table 1
-        second }
-    requires world { world.old ≡ table.world }
-{
-    let passes = both(alloc, first, second)?;
-    let mut logs = LogList::new(alloc);
-    table.close(passes, world, &mut logs);
-    Ok(())
 }
 
 /// Runs both shooters' commands in a world where the target has this damage, and gives their entries.
@@ -442,9 +284,9 @@ fn run_both(
     requires live { live_in world.old.records ≡ FIRST ∷ SECOND ∷ with_state TARGET damage ∷ [] }
     requires taken { All (λ r. (meaning_in action.now).takes r ≡ true) (live_in world.old.records) }
 {
-    let (table, mut first, mut second) = table_of_two(rt.alloc(), action, world)?;
+    let (table, mut first, mut second) = table_of_two(rt.alloc(), action, world, 1)?;
     let entries = shoot_both(rt, &table, &mut first, &mut second, damage)?;
-    close(rt.alloc(), table, first, second, world)?;
+    close_both(rt.alloc(), table, first, second, world)?;
     Ok(entries)
 }
 

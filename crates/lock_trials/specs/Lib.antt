@@ -1,0 +1,2 @@
+-- The passes of tests.
+pub mod Trials

@@ -1,2 +1,0 @@
--- Lemmas on moves on threads.
-pub mod Trials

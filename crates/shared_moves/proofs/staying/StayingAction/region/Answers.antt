@@ -1,6 +1,0 @@
-use Rattle.std.proofs.Common.{refl}
-use Rattle.core_seats.specs.Staying.{keepable}
-use Rattle.shared_moves.proofs.staying.StayingAction.region.Goals as goal
-
-pub abs_box-requires : goal.abs_box-requires
-abs_box-requires c = (keepable c.args.me.now c.args.me.now.kind refl c.requires.taken).bounds

@@ -1,7 +1,0 @@
-use Rattle.std.proofs.Common.{refl}
-use Rattle.std.specs.List.{IsDistinct}
-use Rattle.shared_moves.proofs.trial.near_world.Goals as goal
-
-pub new-requires-clause-apart : goal.new-requires-clause-apart
-unfolding IsDistinct
-new-requires-clause-apart c = ((refl, tt), (tt, tt))
