@@ -4,6 +4,7 @@
 
 pub use errand::Errand;
 pub use places::{ARRIVAL, ITEM};
+pub use players::{FAR, FAR_AT_ONE, FIRST, LOW, MIDDLE, MIDDLE_AT_ONE, NEAR};
 pub use staying::Staying;
 pub use taking::is_taken;
 
@@ -13,7 +14,6 @@ mod layout;
 mod places;
 #[cfg(test)]
 mod plain;
-#[cfg(test)]
 mod players;
 #[cfg(test)]
 mod rows;

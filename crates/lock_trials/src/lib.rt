@@ -2,7 +2,7 @@
 #![tactic(auto)]
 
 pub use passes::{close_both, finish, give_up, go, ran, refused, table_of_two, take};
-pub use worlds::{BY_LAST, FAR, FIRST, LAST, NEAR, far_world, last_world, near_world, plain};
+pub use worlds::{BY_LAST, FAR, LAST, far_world, last_world, near_world, plain};
 
 mod passes;
 #[cfg(test)]

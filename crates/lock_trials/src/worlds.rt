@@ -1,45 +1,16 @@
 ghost use Rattle.std.specs.Prelude.{◌≡◌, ◌<◌, ◌∷◌, [], IfOk};
 ghost use Rattle.areanode.specs.Trees.{IsTreeDepth};
+ghost use Rattle.core_trials.specs.declared.players.TheConstants.{FIRST, NEAR};
 ghost use Rattle.world_tree.specs.Live.{live_in};
 
 use areanode::MOST_DEPTH;
 use arena_geo::{Aabb, Vec3};
-use entity_recs::{Cmd, Kind, PLAYER_MAXS, PLAYER_MINS, Rec};
+use core_trials::{FIRST, NEAR};
+use entity_recs::{Cmd, Rec};
 use std::alloc::{AllocError, Global};
 use world_tree::World;
 
-/// A player at rest, in slot 0.
-pub const FIRST: Rec = Rec {
-    id: 0,
-    kind: Kind::Player,
-    origin: Vec3 {
-        x: 98_304,
-        y: 98_304,
-        z: 6_144,
-    },
-    mins: PLAYER_MINS,
-    maxs: PLAYER_MAXS,
-    vel: Vec3::ZERO,
-    flags: 0,
-    ammo: 0,
-    carry: 0,
-    score: 0,
-    seq: 0,
-    state: 0,
-};
-
-/// A player at rest in the same leaves, in slot 1.
-pub const NEAR: Rec = Rec {
-    id: 1,
-    origin: Vec3 {
-        x: 85_504,
-        y: 98_304,
-        z: 6_144,
-    },
-    ..FIRST
-};
-
-/// A player at rest in another leaf, in slot 1.
+/// A player at rest in another leaf than `FIRST`, in slot 1.
 pub const FAR: Rec = Rec {
     id: 1,
     origin: Vec3 {

@@ -7,8 +7,8 @@ ghost use Rattle.region_locks.specs.Quitting.{MayBegin};
 ghost use Rattle.lock_trials.specs.Trials.{IsFree};
 
 use crate::passes::{give_up, table_of_two, take};
-use crate::worlds::{FIRST, NEAR, last_world, near_world, plain};
-use core_trials::Staying;
+use crate::worlds::{last_world, near_world, plain};
+use core_trials::{FIRST, NEAR, Staying};
 use entity_recs::{Action, Cmd};
 use move_journal::LogList;
 use region_locks::{Holder, NoGate, NodeTable, Pass};

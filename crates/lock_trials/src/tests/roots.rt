@@ -4,8 +4,8 @@ ghost use Rattle.ruled_words.specs.Passes.{fixed_in};
 ghost use Rattle.lock_trials.specs.Trials.{IsFree, IsMoving, IsResting};
 
 use crate::passes::{MOST_CALLS, close_both, finish, go, ran, refused, table_of_two};
-use crate::worlds::{FAR, FIRST, far_world, plain};
-use core_trials::Staying;
+use crate::worlds::{FAR, far_world, plain};
+use core_trials::{FIRST, Staying};
 use entity_recs::{Action, Rec};
 use move_journal::{Log, LogList};
 use region_locks::{Again, NodeTable, Pass, Turn};
