@@ -1,15 +1,15 @@
 ghost use Rattle.std.specs.Prelude.{◌≡◌, true, length, None};
 ghost use Rattle.core_steps.specs.Views.{has};
 ghost use Rattle.ruled_words.specs.Passes.{fixed_in};
-ghost use Rattle.lock_trials.specs.Trials.{IsFree};
+ghost use Rattle.trial_passes.specs.Trials.{IsFree};
 
 use core_trials::Staying;
 use entity_recs::{Action, Entry};
-use lock_trials::plain;
 use region_locks::Pass;
 use shared_moves::{Again, Gate, GatePoint, Moment, NoGate, Shared};
 use std::marker::Model;
 use std::sync::Mutex;
+use trial_passes::plain;
 
 /// Pass 1 of two passes, and what its tries of the command of slot 1 gave.
 #[derive(Drop)]
@@ -25,7 +25,7 @@ impl<'a, A: Action> Model for Second<'a, A> {
     ghost use Rattle.entity_recs.specs.declared.effect.Entry.{Entry};
     ghost use Rattle.core_steps.specs.Views.{has};
     ghost use Rattle.ruled_words.specs.Passes.{fixed_in};
-    ghost use Rattle.lock_trials.specs.Trials.{IsFree};
+    ghost use Rattle.trial_passes.specs.Trials.{IsFree};
 
     ghost Value = { Option Entry };
 

@@ -3,18 +3,18 @@ ghost use Rattle.areanode.specs.Trees.{IsTreeDepth};
 ghost use Rattle.core_steps.specs.Views.{has};
 ghost use Rattle.world_tree.specs.Live.{live_in};
 ghost use Rattle.ruled_words.specs.Passes.{fixed_in};
-ghost use Rattle.lock_trials.specs.Trials.{IsFree};
+ghost use Rattle.trial_passes.specs.Trials.{IsFree};
 
 use crate::beside::{Beside, Second};
 use core_trials::Staying;
 use entity_recs::Action;
-use lock_trials::{far_world, last_world, near_world, plain};
 use region_locks::Pass;
 use shared_moves::{Again, Gate, Shared};
 use std::alloc::{AllocGlobal, Global};
 use std::process::Abort;
 use std::sync::Wait;
 use std::test::Fail;
+use trial_passes::{far_world, last_world, near_world, plain};
 use world_tree::World;
 
 /// The world is shared by two passes with room for so many entries each.

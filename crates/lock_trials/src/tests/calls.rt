@@ -4,10 +4,8 @@ ghost use Rattle.core_steps.specs.Views.{Idle, has};
 ghost use Rattle.core_steps.specs.Steps.{is_taking};
 ghost use Rattle.ruled_words.specs.Passes.{fixed_in, IsOwn};
 ghost use Rattle.region_locks.specs.Quitting.{MayBegin};
-ghost use Rattle.lock_trials.specs.Trials.{IsFree};
+ghost use Rattle.trial_passes.specs.Trials.{IsFree};
 
-use crate::passes::{give_up, table_of_two, take};
-use crate::worlds::{last_world, near_world, plain};
 use core_trials::{FIRST, NEAR, Staying};
 use entity_recs::{Action, Cmd};
 use move_journal::LogList;
@@ -15,6 +13,7 @@ use region_locks::{Holder, NoGate, NodeTable, Pass};
 use std::alloc::AllocGlobal;
 use std::process::Abort;
 use std::test::Fail;
+use trial_passes::{give_up, last_world, near_world, plain, table_of_two, take};
 
 /// Gives the pass a command, and loads its own record.
 fn begin<A: Action>(table: &NodeTable<A>, pass: &mut Pass<A>, cmd: Cmd)

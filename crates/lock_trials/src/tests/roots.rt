@@ -1,10 +1,8 @@
 ghost use Rattle.std.specs.Prelude.{◌≡◌, true, length, Some, IfOk};
 ghost use Rattle.core_steps.specs.Views.{has};
 ghost use Rattle.ruled_words.specs.Passes.{fixed_in};
-ghost use Rattle.lock_trials.specs.Trials.{IsFree, IsMoving, IsResting};
+ghost use Rattle.trial_passes.specs.Trials.{IsFree, IsMoving, IsResting};
 
-use crate::passes::{MOST_CALLS, close_both, finish, go, ran, refused, table_of_two};
-use crate::worlds::{FAR, far_world, plain};
 use core_trials::{FIRST, Staying};
 use entity_recs::{Action, Rec};
 use move_journal::{Log, LogList};
@@ -12,6 +10,9 @@ use region_locks::{Again, NodeTable, Pass, Turn};
 use std::alloc::AllocGlobal;
 use std::process::Abort;
 use std::test::Fail;
+use trial_passes::{
+    FAR, MOST_CALLS, close_both, far_world, finish, go, plain, ran, refused, table_of_two,
+};
 use world_tree::World;
 
 /// Gives pass 0 the command of slot 0.

@@ -1,7 +1,7 @@
 use Rattle.std.proofs.Common.{rules, ◌≡◌, length}
 use Rattle.ruled_words.specs.Passes.{fixed_in, setting_of}
 use Rattle.region_locks.specs.NewPasses.{first_pass, other_pass}
-use Rattle.lock_trials.proofs.Trials.{rooms, are_free}
+use Rattle.trial_passes.proofs.Trials.{rooms, are_free}
 use Rattle.gate_trials.proofs.tests.shared_by_two.Goals as goal
 
 pub returns-clause-first : goal.returns-clause-first

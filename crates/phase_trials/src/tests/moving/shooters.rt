@@ -5,18 +5,18 @@ ghost use Rattle.arena_actions.specs.MapActions.{meaning_in};
 ghost use Rattle.world_tree.specs.Live.{live_in};
 ghost use Rattle.core_steps.specs.Views.{has};
 ghost use Rattle.ruled_words.specs.Passes.{fixed_in, IsOwn};
-ghost use Rattle.lock_trials.specs.Trials.{IsFree, IsMoving, IsResting};
+ghost use Rattle.trial_passes.specs.Trials.{IsFree, IsMoving, IsResting};
 
 use super::{arena, at};
 use arena_actions::MapAction;
 use arena_geo::Vec3;
 use arena_map::{ArenaMap, MapLine, MapRefusal};
 use entity_recs::{Action, Cmd, Entry, Kind, PLAYER_MAXS, PLAYER_MINS, Rec, body_box};
-use lock_trials::{close_both, finish, give_up, go, ran, refused, table_of_two, take};
 use region_locks::{Again, Holder, NodeTable, Pass, Turn, Went};
 use std::alloc::{AllocGlobal, Global};
 use std::process::Abort;
 use std::test::Fail;
+use trial_passes::{close_both, finish, give_up, go, ran, refused, table_of_two, take};
 use world_tree::World;
 
 /// A player with ammunition, in slot 0, whose move pass 0 runs.

@@ -1,6 +1,6 @@
 use Rattle.std.proofs.Common.{length}
 use Rattle.ruled_words.specs.Passes.{fixed_in}
-use Rattle.lock_trials.specs.Trials.{IsMoving}
+use Rattle.trial_passes.specs.Trials.{IsMoving}
 use Rattle.lock_trials.proofs.tests.roots.take_root.Given as goal
 
 abbrev pub invariant-loop : goal.invariant-loop

@@ -1,6 +1,6 @@
 use Rattle.std.proofs.Common.{length}
 use Rattle.ruled_words.specs.Passes.{fixed_in}
-use Rattle.lock_trials.specs.Trials.{IsMoving}
+use Rattle.trial_passes.specs.Trials.{IsMoving}
 use Rattle.phase_trials.proofs.tests.moving.shooters.commit.Given as goal
 
 abbrev pub invariant-loop : goal.invariant-loop

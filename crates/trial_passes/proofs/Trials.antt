@@ -14,7 +14,7 @@ use Rattle.region_locks.specs.Quitting.{MayBegin}
 use Rattle.region_locks.specs.Turns.{has_command_in_hand}
 use Rattle.region_locks.specs.declared.again.Again.{Again}
 use Rattle.region_locks.specs.Moves.{HasRun, WasNotRun}
-use Rattle.lock_trials.specs.Trials.{IsFree, IsMoving, IsResting}
+use Rattle.trial_passes.specs.Trials.{IsFree, IsMoving, IsResting}
 use Rattle.region_locks.proofs.Running.{without_command}
 
 -- the rooms of two passes, as large as each other

@@ -1,7 +1,7 @@
 use Rattle.std.proofs.Common.{sym, ◌∙◌}
 use Rattle.ruled_words.specs.Passes.{fixed_in}
 use Rattle.region_locks.proofs.Stepping.{takes_node}
-use Rattle.lock_trials.proofs.passes.take.Goals as goal
+use Rattle.trial_passes.proofs.passes.take.Goals as goal
 
 pub take-requires-clause-next : goal.take-requires-clause-next
 take-requires-clause-next g c κs within =

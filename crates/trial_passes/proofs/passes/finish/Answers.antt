@@ -2,8 +2,8 @@ use Rattle.std.proofs.Common.{length}
 use Rattle.ruled_words.specs.Passes.{fixed_in}
 use Rattle.region_locks.specs.Turns.{has_command_in_hand}
 use Rattle.region_locks.proofs.Running.{at_rest}
-use Rattle.lock_trials.proofs.Trials.{rests_now}
-use Rattle.lock_trials.proofs.passes.finish.Goals as goal
+use Rattle.trial_passes.proofs.Trials.{rests_now}
+use Rattle.trial_passes.proofs.passes.finish.Goals as goal
 
 pub returns-in_default : goal.returns-in_default
 returns-in_default g c =

@@ -6,7 +6,7 @@ ghost use Rattle.ruled_words.specs.Passes.{fixed_in, IsOwn};
 ghost use Rattle.region_locks.specs.Turns.{turn_of};
 ghost use Rattle.region_locks.specs.Quitting.{MayBegin};
 ghost use Rattle.region_locks.specs.Pursuits.{IsGoingOn};
-ghost use Rattle.lock_trials.specs.Trials.{IsFree, IsMoving, IsResting};
+ghost use Rattle.trial_passes.specs.Trials.{IsFree, IsMoving, IsResting};
 
 use core_steps::{StepKind, node_word};
 use entity_recs::{Action, Cmd, Entry};
@@ -17,7 +17,7 @@ use std::test::Fail;
 use world_tree::World;
 
 /// The most calls that a pass makes for one move in a test.
-pub(crate) const MOST_CALLS: u16 = 200;
+pub const MOST_CALLS: u16 = 200;
 
 /// A table of the world for two passes with room for so many entries each.
 pub fn table_of_two<'a, A: Action>(

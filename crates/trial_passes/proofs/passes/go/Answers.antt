@@ -1,7 +1,7 @@
 use Rattle.std.proofs.Common.{length}
 use Rattle.ruled_words.specs.Passes.{fixed_in}
 use Rattle.region_locks.proofs.Running.{keeps_number}
-use Rattle.lock_trials.proofs.passes.go.Goals as goal
+use Rattle.trial_passes.proofs.passes.go.Goals as goal
 
 pub returns-in-Ok-clause-number : goal.returns-in-Ok-clause-number
 returns-in-Ok-clause-number g c =

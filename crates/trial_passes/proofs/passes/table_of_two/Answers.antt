@@ -1,8 +1,8 @@
 use Rattle.std.proofs.Common.{rules, ◌≡◌, length}
 use Rattle.ruled_words.specs.Passes.{fixed_in, setting_of}
 use Rattle.region_locks.specs.NewPasses.{first_pass, other_pass}
-use Rattle.lock_trials.proofs.Trials.{rooms, are_free}
-use Rattle.lock_trials.proofs.passes.table_of_two.Goals as goal
+use Rattle.trial_passes.proofs.Trials.{rooms, are_free}
+use Rattle.trial_passes.proofs.passes.table_of_two.Goals as goal
 
 pub returns-clause-first : goal.returns-clause-first
 returns-clause-first g c =

@@ -1,7 +1,7 @@
 use Rattle.std.proofs.Common.{length}
 use Rattle.ruled_words.specs.Passes.{fixed_in}
-use Rattle.lock_trials.proofs.Trials.{two_own, two_rest}
-use Rattle.lock_trials.proofs.passes.close_both.Goals as goal
+use Rattle.trial_passes.proofs.Trials.{two_own, two_rest}
+use Rattle.trial_passes.proofs.passes.close_both.Goals as goal
 
 pub close-requires-clause-own : goal.close-requires-clause-own
 close-requires-clause-own g c κs within =

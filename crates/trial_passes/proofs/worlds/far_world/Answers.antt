@@ -1,6 +1,6 @@
 use Rattle.std.proofs.Common.{refl}
 use Rattle.std.specs.List.{IsDistinct}
-use Rattle.lock_trials.proofs.worlds.last_world.Goals as goal
+use Rattle.trial_passes.proofs.worlds.far_world.Goals as goal
 
 pub new-requires-clause-apart : goal.new-requires-clause-apart
 unfolding IsDistinct
