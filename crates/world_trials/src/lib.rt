@@ -1,4 +1,4 @@
-//! Tests of the linked world and of what moves do in it: `world_tree` and `arena_actions`.
+//! Tests of the linked world: `world_tree`.
 #![tactic(auto)]
 
 #[cfg(test)]

@@ -1,5 +1,0 @@
-use Rattle.world_trials.proofs.RisingIds.{two_rise}
-use Rattle.world_trials.proofs.tests.actions.effect_among.Goals as goal
-
-pub act-requires-clause-rising : goal.act-requires-clause-rising
-act-requires-clause-rising c = two_rise c.args.first.id c.args.second.id c.requires.rising
