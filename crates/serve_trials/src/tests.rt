@@ -10,15 +10,12 @@ use std::thread::Threads;
 
 mod cut;
 mod cut_input;
-mod every_worker;
 mod failing_reads;
-mod far;
 mod full;
 mod known;
 mod pipe;
 mod refused;
 mod rooms;
-mod shooters;
 mod statuses;
 mod things;
 mod workers;

@@ -1,5 +1,6 @@
-use super::report_of;
+use arena_engine::serve;
 use edge_io::{MemSink, MemSource};
+use shared_moves::NoGate;
 use std::test::Fail;
 
 /// Two players with ammunition, each of which shoots twice at a third one in the last frame, from two sides.
@@ -27,7 +28,7 @@ fn one_of_two_shooters_has_the_point(rt: HostRuntime) -> Result<(), Fail> {
     for words in [["play", "1"], ["play", "2"], ["play", "4"]] {
         let mut source = MemSource::new(TWO_SHOOTERS.as_bytes(), 1_000, &[]);
         let mut sink = MemSink::new(rt.alloc(), 10_000, 1_000)?;
-        let report = report_of(&rt, &words, &mut source, &mut sink);
+        let report = serve(&rt, rt.alloc(), &words, &mut source, &mut sink, &NoGate);
         assert_eq!(rt; report.status, 0);
         let Some(last) = &report.last else {
             return Err("no journal".into());

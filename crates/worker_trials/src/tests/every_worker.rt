@@ -1,10 +1,9 @@
 ghost use Rattle.std.specs.Prelude.{◌≤◌};
 
-use super::report_of;
 use arena_engine::{Report, serve};
 use edge_io::{MemSink, MemSource};
 use entity_recs::Entry;
-use shared_moves::{Gate, GatePoint, Moment};
+use shared_moves::{Gate, GatePoint, Moment, NoGate};
 use std::alloc::{AllocError, AllocGlobal};
 use std::process::Abort;
 use std::sync::Wait;
@@ -93,7 +92,14 @@ fn report_with(
 fn each_of_sixteen_workers_calls_the_gate_at_each_point(rt: HostRuntime) -> Result<(), Fail> {
     let mut nothing = MemSource::new(&[], 1, &[]);
     let mut recording = MemSink::new(rt.alloc(), 20_000, 1_000)?;
-    let made = report_of(&rt, &["make", "7", "16", "1"], &mut nothing, &mut recording);
+    let made = serve(
+        &rt,
+        rt.alloc(),
+        &["make", "7", "16", "1"],
+        &mut nothing,
+        &mut recording,
+        &NoGate,
+    );
     assert_eq!(rt; made.status, 0);
     let gate = NotingGate::new(16);
     let report = report_with(&rt, &["play", "16"], recording.bytes(), &gate)?;

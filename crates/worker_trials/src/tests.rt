@@ -1,0 +1,3 @@
+mod every_worker;
+mod far;
+mod shooters;
