@@ -63,6 +63,7 @@ abbrev pub node_of : TreeView → Bounds → ℕ
 node_of tree b = node_from tree.depth 0 tree.bounds b
 
 -- the leaf is one of the box's
+-- Sets of leaves and nodes are tests, and words whose bits the tests give: callers hold words.
 abbrev pub has_leaf : TreeView → Bounds → ℕ → Bool
 has_leaf tree b leaf = reaches tree.depth 0 tree.bounds b (leaf_node tree.depth leaf)
 

@@ -13,6 +13,8 @@ use crate::sizes::MOST_NODES;
 use arena_geo::{Aabb, Region};
 use std::marker::Model;
 
+// The areas are carried down the recursion, so nothing depends on the depth. Places of nodes that a smaller tree
+// hasn't have the root's area, so that equal trees are equal and a tree stays `Copy`.
 /// The tree of areanodes over an arena, by which boxes are linked and found. Node 0 is the root; the children of node i
 /// are 2i + 1 over the part of its area above its cut, and 2i + 2 over the part below. Leaf i is node
 /// [`first_leaf`](Tree::first_leaf) + i.

@@ -11,6 +11,8 @@ use arena_map::ArenaMap;
 use entity_recs::{Cmd, Effect, IdList, Rec, Reply, StateList};
 use trigger_rules::touch_all;
 
+// No model: a law of a trait ranges over every value of a model, without its invariant, and these laws need a map
+// that keeps its rules.
 /// The action of an arena: what a player's command does there. The player moves among the walls and blocks of the map
 /// and the bodies of the other live solids, and then touches what it has come to: items, goals and teleporters.
 #[derive(Drop)]

@@ -8,6 +8,8 @@ use crate::marks::{PLACES, WORDS, next_in};
 use crate::strips::Strips;
 use arena_geo::Aabb;
 
+// Each strip has the solids that begin in it or before it and those that end in it or after it, a bit each, so a look
+// is one intersection of rows and the order of the solids stays. That it finds few is claimed by no clause.
 /// An index of the solids of a map: in which strips of the arena each of them lies, on x and on y. It misses none.
 #[derive(Drop)]
 pub struct SolidIndex {

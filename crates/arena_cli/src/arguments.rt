@@ -83,6 +83,7 @@ fn texts_of(alloc: Global, texts: &[String]) -> Result<Vec<&str>, AllocError>
     Ok(slices)
 }
 
+// A word that isn't UTF-8 never gets here: it is as any other word that is in no form of the commands.
 /// The words of the command: all arguments but the first.
 pub fn words_of(alloc: Global, arguments: &[String]) -> Result<Vec<&str>, AllocError>
     ensures { IfOk result (λ words. map (λ word. word.now) words.items ≡ drop 1 (map string_bytes arguments.now)) }

@@ -16,6 +16,8 @@ use std::marker::Model;
 use std::sync::Wait;
 use std::thread::Threads;
 
+// An event is taken, and then what it closed is printed: what runs a frame knows no sink, so few functions are
+// generic in it, and the buffer is empty between two events.
 /// The game of a recording: its playback, the journal of the last frame that was run, and what prints.
 #[derive(Drop)]
 pub struct Game {

@@ -26,6 +26,8 @@ use Rattle.arena_map.specs.Things.{records_from, dest_in, delay_in, lift_data}
 
 -- the arena, the blocks, the spawns, and the lines of items, teleporters, goals and lifts; how deep the tree of areanodes
 -- is and how many lines name that; whether players can shoot and how many lines say so
+-- Things are their lines: records, ids and data are computed from them, so an id is 64 plus the place by definition.
+-- The lines of the settings are counted, so that a second one breaks rule 3 like any other line too many.
 pub record MapView : Type 0 where
   pub bounds : Bounds
   pub blocks : List Bounds

@@ -46,6 +46,7 @@ abbrev pub shaft : Vec3 → Vec3 → ℤ → Bounds
 shaft lo hi rise = bounds lo (plus hi (upwards rise))
 
 -- the shaft of the lift on a line
+-- One box from the lowest place to the highest, which contains the lift at each height.
 abbrev pub shaft_of : MapLine → Option Bounds
 shaft_of (Lift lo hi rise speed) = Some (shaft lo hi rise)
 shaft_of _ = None

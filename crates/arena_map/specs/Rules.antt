@@ -60,6 +60,7 @@ keeps_shafts map (Lift lo hi rise speed) =
 keeps_shafts _ _ = true
 
 -- the first rule that a line breaks, added to a map
+-- The six tests in a row for every line, in the order of their numbers; rule 7 is left to the caller, who asks `ready`.
 abbrev pub broken_rule : MapView → MapLine → Option MapFault
 broken_rule map line =
     if not (keeps_box map.bounds line) then Some fault.Box

@@ -65,6 +65,7 @@ pub record IsValidRecord (map : MapView) (id : ℕ) (r : Rec) : Type 0 where
   pub inside : r.kind ≡ Player → contains map.bounds (body_of r) ≡ true
 
 -- the records, each at the place of its id, are those of a valid world
+-- Here and not below, since a record's state belongs to its kind and its map line.
 pub record IsValidWorld (map : MapView) (records : List (Option Rec)) : Type 0 where
   pub each : (id : ℕ) (r : Rec) → slice_index_or records id None ≡ Some r → IsValidRecord map id r
   pub things : (id : ℕ) → 64 ≤ id

@@ -42,6 +42,8 @@ const NO_SETTINGS: Settings = Settings {
     shots: false,
 };
 
+// The walls and the blocks are one list, so that a trace is handed a slice. Room for a thing is taken in all lists
+// before anything is put, so a refusal of memory leaves the map as it was.
 /// The map of an arena, made of its lines. It keeps the rules: each side of the arena is at least
 /// [`LEAST_SIDE`](crate::LEAST_SIDE) long; each block has an inside and is inside the arena; a player at a spawn or at
 /// a teleporter's destination is inside it, and so are each item, each teleporter, each goal and each lift on all its

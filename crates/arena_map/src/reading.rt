@@ -242,6 +242,8 @@ fn line_within(word: MapWord, rest: &[u8]) -> Option<MapLine>
     }
 }
 
+// In two passes, first the form of all fields and then their limits, so that a field of the wrong form comes before
+// an earlier number out of its limits.
 /// What a line of a map says, without its line feed. Its first word isn't `frame`, `from` or `end`.
 ///
 /// Else the first fault that holds: 3 where the first word is no word of a recording; 4 where the number of fields is

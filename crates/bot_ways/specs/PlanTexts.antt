@@ -55,6 +55,7 @@ added_lines m =
     depth_lines_of m ++ (shots_lines_of m ++ (map block_of m.blocks ++ (map Spawn m.spawns ++ m.things)))
 
 -- the map of these lines: the same, without a line that names the depth which a map has anyway
+-- The lines stand by kind, so a plan that is read again gives the same text; `depth 4` isn't written again.
 abbrev pub as_written : MapView → MapView
 as_written m = record m { depth_lines = if m.depth == DEFAULT_DEPTH then 0 else 1 }
 

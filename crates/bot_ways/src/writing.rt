@@ -37,6 +37,8 @@ fn plan_text(alloc: Global, map: &ArenaMap, plan: &Plan) -> Result<PlanText, All
     Ok(text)
 }
 
+// The text is put together in memory and written by one call, so that lack of memory comes before the first write. It
+// has at most 123,417 bytes.
 /// Writes what a plan with a way comes to: a recording in which one bot walks along it, and after its line `end` the way,
 /// its length and the least lengths, which show that no way is shorter. A reader of recordings doesn't look there.
 ///

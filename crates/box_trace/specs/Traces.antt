@@ -46,6 +46,7 @@ axis_after body d solids k =
     option_and_then (apart_axis (body_at body d k)) (blocker_at body d solids (k + 1))
 
 -- the trace: its steps are the greatest number up to which none is blocked
+-- What a trace is, as a relation; `trace_of` beside it is for callers that rewrite.
 pub record IsTrace (body : Bounds) (d : Vec3) (solids : List Bounds) (hit : Hit) : Type 0 where
   pub within : hit.steps ≤ step_count d
   pub free : IsFree body d solids hit.steps

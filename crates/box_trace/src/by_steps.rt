@@ -13,6 +13,7 @@ use crate::meeting::Meeting;
 use crate::way::{REACH, Way};
 use arena_geo::{Aabb, Vec3};
 
+// The plain reading of the definition, kept beside `trace` under the same contract, to measure against.
 /// The same answer as [`trace`](crate::trace), by trying every step in turn: its work grows with the number of
 /// steps too.
 pub fn trace_by_steps(body: &Aabb, d: Vec3, fixed: &[Aabb], moving: &[Aabb]) -> Hit

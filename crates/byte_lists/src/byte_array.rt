@@ -4,6 +4,8 @@ ghost use Rattle.std.specs.Bool.{OnTrue, OnFalse};
 use arrayvec::ArrayVec;
 use std::marker::Model;
 
+// In the value, for what is moved with its owner and takes no memory, as a packet; `ByteBuf` is on the heap, for a
+// line of 16,500 bytes.
 /// A list of at most `MOST` bytes, which lie in the value itself and take no memory.
 #[derive(Debug, Drop)]
 pub struct ByteArray<const MOST: usize> {

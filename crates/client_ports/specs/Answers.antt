@@ -23,6 +23,7 @@ use Rattle.client_ports.specs.Clients.{client, ports_of, live_slot, live_with}
 use Rattle.client_ports.specs.States.{State}
 
 -- the refusal of a join that gets no slot
+-- Whether a slot is free doesn't depend on where anybody is, so `Full` is asked before the spawns are tried.
 abbrev pub refusal_of : JoinFault → Refusal
 refusal_of fault.Already = Already
 refusal_of fault.Full = Full

@@ -42,6 +42,7 @@ abbrev pub most_moves : ℕ → ℕ
 most_moves packets = min (3 * packets) 512
 
 -- the room for all that so many packets of a frame can give
+-- Three numbers, since a packet may give three moves; a frame never has more than 512 moves, 8 for each of 64 slots.
 abbrev pub room_for : ℕ → Room
 room_for packets = record { moves = most_moves packets; joined = packets; refused = packets }
 

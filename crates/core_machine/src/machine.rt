@@ -12,6 +12,8 @@ use std::alloc::{AllocError, Global};
 use std::marker::Model;
 use world_tree::NearList;
 
+// Beyond its arrays the machine has the words of the start, where no step reads or writes. No effect is kept:
+// `resolved` asks the action again.
 /// The pure core as a machine: the shared words and the seats, each with its view, as plain values. A seat with a
 /// command in hand makes one step on one word at a time, and any seat may be the next to make one.
 #[derive(Drop)]
@@ -129,6 +131,8 @@ impl<'a, A: Action> Core<'a, A> {
         self.seats[usize::from(seat)].given = Some(cmd);
     }
 
+    // By a reference that may change, though the core stays: the action's near records need a list with room, and the
+    // core has one.
     /// The seat's next step: none exactly where it has no command in hand. The core stays as it is.
     pub fn next_step(&mut self, seat: u8) -> Option<Step>
         requires { seat < length self.old.seats }

@@ -57,6 +57,7 @@ left_at F effect own again wanted (Returning leaves) = length leaves
 left_at F effect own again wanted (Yielding nodes leaves) = length nodes + length leaves
 
 -- the steps that are left of a view, where this effect is kept
+-- Each step but a refused take lowers it, so a loop over a move's steps ends by it.
 abbrev pub steps_left : Fixed → Option Effect → View → ℕ
 steps_left F effect view = left_at F effect (length view.own) (length view.again) (length view.wanted) view.point
 

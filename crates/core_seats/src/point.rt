@@ -47,6 +47,8 @@ impl Default for Store {
     }
 }
 
+// The lists that a seat's point speaks of are beside it: with the lists in the point each step built and moved some
+// 600 bytes twice, half the time of a move.
 /// The lists that a seat's point speaks of, and the states of things that are loaded. In each list the first comes next.
 /// Where the point doesn't speak of a list, it holds whatever was left in it.
 #[derive(Drop)]

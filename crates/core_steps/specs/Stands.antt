@@ -457,6 +457,8 @@ pub record Stands (F : Fixed) (core : Core) (history : List Item) (now : World) 
 
 -- the words at the start: no node is held, each live player is linked at its node, and the records are those of the
 -- world
+-- Words of players and ids that aren't live are 0 by this definition, so no world is asked for a record of zeros
+-- there.
 abbrev pub start_words : Fixed → Words
 start_words F = record {
   commits = 0;

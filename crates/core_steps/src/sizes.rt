@@ -1,3 +1,4 @@
+// Words for 63 nodes and 512 ids, whatever the tree and the arena, so an index is a number that depends on neither.
 /// How many nodes the table has words for, whatever the tree: those of a tree of depth 5.
 pub const TABLE_NODES: usize = 63;
 

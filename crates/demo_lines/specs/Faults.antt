@@ -98,6 +98,8 @@ fault_of_words r (Some word) rest = fault_after_word r word rest
 
 -- the fault of a line at its place, in the order 1, 10, 2, 3, 4, 5, 6, 7, 8, 9; ended says whether the input ended in
 -- the line or before it
+-- The tests one after another are the definition, off which the order of the faults can be read; the code makes one
+-- pass, and a lemma says that both find the same.
 abbrev pub fault_of : Reading → Bool → List ℕ → Option LineFault
 fault_of r ended raw =
     if is_long raw then Some Long

@@ -63,6 +63,7 @@ abbrev pub FaultsAreTheFirst : Type 0
 FaultsAreTheFirst = (bytes : List ℕ) (why : LineRefusal) → (fault bytes ≡ Some why) ↔ IsFirstFault bytes why
 
 -- more bytes after these give no event, and change neither the fault nor the map
+-- One statement for the end and for a refused line.
 pub record AddsNothing (bytes more : List ℕ) : Type 0 where
   pub events : events (bytes ++ more) ≡ events bytes
   pub fault : fault (bytes ++ more) ≡ fault bytes

@@ -128,6 +128,8 @@ pub record IsLastPart (taken : List ℕ) (later : Option (List ℕ)) : Type 0 wh
 
 -- lines were taken that gave no event and that the recording goes on after, and then what is refused: a line or the
 -- front of one, where P holds, or what the input ended with, where Q holds
+-- What holds of the source in each case is handed in as two facts, since the reader's state doesn't show which case it
+-- was.
 pub record Refuses (old : Reading) (before later : Option (List ℕ)) (number : ℕ) (P Q : Type 0) : Type 0 where
   pub lines : List (List ℕ)
   pub last : List ℕ

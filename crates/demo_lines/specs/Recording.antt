@@ -102,6 +102,7 @@ left_at Ended r = 0
 left_at (Refused why) r = 0
 
 -- at most so many more lines can follow
+-- Exact, so it also bounds how many lines a recording has, to the line.
 abbrev pub lines_left : Reading → ℕ
 lines_left r = left_at r.stage r
 

@@ -4,6 +4,8 @@ ghost use Rattle.demo_lines.specs.declared.demo_stop.DemoStop.TheVariants.{NoMem
 use std::alloc::AllocError;
 use thiserror::Error;
 
+// `NoMemory` is a stop of its own: the lines taken break no rule, and no read failed. Like the other stops it is
+// kept, and later calls give it again.
 /// Why a recording isn't read further.
 #[derive(Clone, Copy, Debug, PartialEq, Eq, Error)]
 pub enum DemoStop {

@@ -10,6 +10,7 @@ use edge_io::{Failed, LineBuf, LineReader, NextLine, ROOM, Source};
 /// How many bytes the longest line after a recording has, its line feed not counted: those of the longest line of output.
 pub const LONGEST_REST: usize = ROOM;
 
+// A longer line is no line of an output, and counts as the end of what follows.
 /// The bytes of a line after a recording.
 pub type RestBuf = ByteBuf<LONGEST_REST>;
 

@@ -3,6 +3,7 @@ ghost use Rattle.std.specs.Prelude.{◌≡◌};
 use demo_lines::Event;
 use packet_read::{Arrival, ArrivalBytes, PacketBytes};
 
+// 64 bytes for the packet: smaller to move than an arrival, and with room for several moves.
 /// An event of a generated recording, with its packet as it is written: smaller than an [`Event`], which has room for
 /// any packet of a line.
 #[derive(Drop)]

@@ -19,6 +19,9 @@ fn words_of(seed: u64) -> SplitMix64
     SplitMix64::from_seed(seed.to_le_bytes())
 }
 
+// It keeps counts of what is left, so its facts are inequalities, and its seed, which no code reads, for the facts on
+// which words were drawn. Commands that are resent are drawn again, by two more streams of the same seed, so no
+// command is kept.
 /// Gives the events of a generated recording, one after another: for each frame that it opens, in the first one a join
 /// of each player, and then the packets with commands, in the order of their ports; and at last its end. It takes no
 /// memory.

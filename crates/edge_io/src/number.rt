@@ -21,6 +21,7 @@ fn digits(field: &[u8], limit: u64) -> Option<u64>
     Some(value)
 }
 
+// One function for all numbers, up to any limit of 64 bits. std's `parse` takes a plus and leading zeros.
 /// The number of at most `limit` that a field spells in decimal digits, without a leading zero.
 pub fn natural(field: &[u8], limit: u64) -> Option<u64>
     ensures value { result ≡ numbers.natural_up_to limit field.now }

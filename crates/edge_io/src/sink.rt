@@ -5,6 +5,8 @@ ghost use Rattle.edge_io.specs.Counts.{HasRisen};
 
 use crate::failed::Failed;
 
+// `room` is a number, since a caller knows how many bytes it will write. A count of faults that rises at `Ok` is
+// excluded, so a body that hides a fault breaks a clause.
 /// Where bytes go.
 pub trait Sink {
     // The bytes that the sink has taken, where it knows them.

@@ -7,6 +7,9 @@ ghost use Rattle.edge_io.specs.Ends.{is_end_of_input};
 
 use crate::failed::Failed;
 
+// A source has its last read and its end as ghost members. With the first, 'nothing is read ahead' is a clause; with
+// the second an input that has ended stays so, though a terminal may give more. `never_fails` is a fact, since no
+// caller knows how many reads its input takes.
 /// Where bytes come from.
 pub trait Source {
     // The bytes that reads will give from here on, where the source knows them.

@@ -8,6 +8,8 @@ use crate::sink::Sink;
 use std::io::Write;
 use std::marker::Model;
 
+// It answers an empty piece itself, and has no flush: what is pending is in the printer above it, so wrap no writer
+// that buffers.
 /// A sink over a writer of the standard library. It doesn't know the bytes that were taken, and counts as a fault each
 /// error of the writer, and each write that takes none of a piece that isn't empty.
 #[derive(Drop)]

@@ -11,6 +11,7 @@ use crate::source::Source;
 use std::io::Read;
 use std::marker::Model;
 
+// It doesn't know its bytes. What it asks of its reader is tested, not proved: std's `Read` says nothing of errors.
 /// A source over a reader of the standard library. It doesn't know the bytes that are left, and counts each error of
 /// the reader as a fault, an interrupted read as well. Once the reader has given the end of input it isn't asked
 /// again, even if it would give more, as a terminal or a growing file may.

@@ -4,6 +4,8 @@ use Rattle.entity_recs.specs.declared.cmd.Cmd.{Cmd}
 
 -- whose command it is and its number, the frame in which it is done, how many milliseconds it takes, the speed that is
 -- wished, and the buttons
+-- Plain numbers, tied to `Cmd` by `command_of`: the Rust type keeps facts as proofs, which a definition of the receive
+-- pass would have to build.
 pub record Command : Type 0 where
   pub slot : ℕ
   pub seq : ℕ

@@ -22,6 +22,8 @@ with_new_state [] id r = r
 with_new_state (s ∷ states) id r = if s.id == id then with_state r s.state else with_new_state states id r
 
 -- the world with the player's record and the listed states from an effect
+-- A map over all live records and then the player, so that the world after an effect computes, and no fact that ids
+-- are distinct is needed.
 abbrev pub with_effect : World → ℕ → Effect → World
 with_effect w slot e =
     record { ids = w.ids; record_of = λ id. if id == slot then e.me else with_new_state e.states id (w.record_of id) }

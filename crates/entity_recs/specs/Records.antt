@@ -45,6 +45,7 @@ IsShapeOf Goal origin mins maxs = IsMapBox origin mins maxs
 IsShapeOf Lift origin mins maxs = IsMapBox origin mins maxs
 
 -- a record within its bounds, whatever its state
+-- The state is left out, since what it may be depends on the kind and on the map.
 pub record IsRecord (r : Rec) : Type 0 where
   pub id : IsIdOf r.kind r.id
   pub origin : IsNear 1048576 r.origin

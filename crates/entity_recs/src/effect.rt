@@ -31,6 +31,8 @@ pub struct Effect {
     pub reply: Reply,
 }
 
+// An entry has its place, by which the entries of several logs are put in order; a `did` line doesn't print it, since
+// it is the line's index in its frame.
 /// What a journal holds of a move that was done.
 #[derive(Debug, Drop)]
 pub struct Entry {

@@ -9,6 +9,7 @@ use crate::join_fault::JoinFault;
 use entity_recs::SLOTS;
 use std::marker::Model;
 
+// `port_at` is one call more than the slots need: it is how a caller learns which slots are live.
 /// The slots of the players, each free or live with the port that is joined there. No port is joined in two slots.
 ///
 /// A slot is found by its number. No call takes memory.

@@ -23,6 +23,7 @@ pub record Fit (ports : List ℕ) (capacity : ℕ) (arrivals : List Arrival) : T
   pub few : length arrivals ≤ MOST_ARRIVALS
 
 -- this order has the places of each feeder rising, each once, and no other place
+-- By what rises in it, so no merge of two lists is in the definition, whose witness each step would carry.
 pub record IsOrder (ports order : List ℕ) : Type 0 where
   pub evens : filter (is_of ports 0) order ≡ places_below ports 0 (length ports)
   pub odds : filter (is_of ports 1) order ≡ places_below ports 1 (length ports)

@@ -18,6 +18,7 @@ abbrev pub server_view : MapView → State → ℕ → ServerView
 server_view map state frames = record { map = map; state = state; frames = frames }
 
 -- before the first frame
+-- A server asks for no spawn: a recording without frames needs none, and on such a map each join is `Crowded`.
 abbrev pub new_server : MapView → ServerView
 new_server map = server_view map (opening map) 0
 

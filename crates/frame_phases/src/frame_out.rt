@@ -9,6 +9,8 @@ use move_journal::Journal;
 use packet_read::MOST_ARRIVALS;
 use std::alloc::{AllocError, Global};
 
+// The replies are written before the leaves, from the world after the moves, so nobody needs that world once the
+// frame is over, and the printer needs none.
 /// What a frame gives out.
 #[derive(Drop)]
 pub struct FrameOut {

@@ -3,6 +3,7 @@ use snapshot_write::ReplyBuf;
 use std::alloc::{AllocError, Global};
 use std::marker::Model;
 
+// The buffers of no reply are in a second list: of a part of a vector that is lent the prover follows no loan.
 /// A list of at most [`SLOTS`] replies, each the bytes of a snapshot. It has the room for all of them from the
 /// start.
 #[derive(Drop)]

@@ -8,6 +8,8 @@ ghost use Rattle.link_lists.specs.Links.{with_link};
 use std::alloc::{AllocError, Global};
 use std::marker::Model;
 
+// New ids go to the front, where Quake's `SV_LinkEdict` puts them at the end: no rule depends on the order, and the
+// front needs no link to the end.
 /// Doubly linked lists over one pool of ids, as the area lists of Quake's world: each id is in one
 /// list at most, and there once.
 ///

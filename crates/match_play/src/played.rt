@@ -12,6 +12,8 @@ use std::alloc::AllocError;
 use std::sync::Wait;
 use std::thread::Threads;
 
+// The game is lent, since no clause over an answer alone could say that none of its journals is lost where memory is
+// refused.
 /// Plays the recording of this seed, with 1 to 64 players and 1 to 2,000 frames, without writing it: the same packets
 /// come in the same frames. One worker runs the moves of a frame in the order of arrival. It takes no memory that grows with the number of frames but that for their journals.
 ///

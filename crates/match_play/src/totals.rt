@@ -4,6 +4,7 @@ use crate::items::items_in;
 use client_ports::Received;
 use entity_recs::Entry;
 
+// They are counted, though a law says what they are: the line says what happened.
 /// What the frames of a match come to.
 #[derive(Clone, Copy, Debug, PartialEq, Eq)]
 pub struct Totals {

@@ -25,6 +25,8 @@ fn append_all(logs: &[Log], out: &mut Journal)
     }
 }
 
+// All entries are put in a row and sorted by place, by std's sort, which takes no memory; it asks only that the
+// places are the numbers from 0 up, each once.
 /// Lists all entries of logs by place, where the places over all logs are the numbers from 0 up, each once: those of
 /// workers that share their places, or no log at all. It takes no memory.
 pub fn merge(logs: &[Log], out: &mut Journal)

@@ -6,6 +6,7 @@ use Rattle.edge_io.specs.Writes.{AppendsPart}
 
 -- a text was put after what was pending: a front of both was written, and the rest is pending now; no fault was
 -- counted, and the sink has room for as much less as was written
+-- What is pending isn't part of what a sink has taken: contracts of `play` say what the sink has taken when it ends.
 pub record Prints {S : Type 0} (taken : S → Option (List ℕ)) (faults room : S → ℕ) (old new : S)
     (before pending text : List ℕ) : Type 0 where
   pub written : List ℕ

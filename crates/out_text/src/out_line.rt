@@ -8,6 +8,7 @@ use arena_geo::Vec3;
 use client_ports::{Joined, Refusal, Refused};
 use entity_recs::{Entry, IdList};
 
+// A line owns the ids got, since a reader of lines has no entry to borrow them from.
 /// One line of the output.
 #[derive(Drop)]
 pub enum OutLine<'a> {

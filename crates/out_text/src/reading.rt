@@ -307,6 +307,7 @@ fn line_in<'a>(line: &[u8], bytes: &'a mut ReplyBuf) -> Option<OutLine<'a>>
     }
 }
 
+// It parses strictly, in arrays on the stack. To print the line again and compare would need room for 8 KB of text.
 /// The line of the output that is printed so, without its line feed. The bytes of a packet or a snapshot are put into
 /// `bytes`, which is empty.
 ///

@@ -20,6 +20,7 @@ abbrev pub first_seq : StepsPacket → ℕ
 first_seq s = s.seq - (length s.cmds - 1)
 
 -- the commands of a packet as moves with their numbers, the oldest first: a join or a leave has none
+-- One list for both versions, so the receive pass has one rule: it keeps the numbers above the last accepted one.
 abbrev pub commands_of : Packet → List MovePacket
 commands_of Join = []
 commands_of (Step m) = m ∷ []

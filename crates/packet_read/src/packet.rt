@@ -1,6 +1,7 @@
 use crate::move_packet::MovePacket;
 use crate::steps_packet::StepsPacket;
 
+// Not `Copy`, so that a kind of packet may have a list.
 /// What a client says in one packet.
 #[derive(Debug, PartialEq, Eq, Drop)]
 pub enum Packet {

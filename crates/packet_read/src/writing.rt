@@ -11,6 +11,7 @@ use crate::packet_bytes::{MOST_PACKET_BYTES, PacketBytes};
 use crate::steps_packet::StepsPacket;
 use crate::wire::{JOIN, LEAVE, MOVE, VERSION, VERSION_2};
 
+// It alone has the limits of a packet, so tests can build one that is refused.
 /// The one spelling of a packet, which is read as that packet again.
 pub fn write_packet(p: &Packet) -> PacketBytes
     requires { IsAllowed p.now }

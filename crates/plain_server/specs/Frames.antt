@@ -17,10 +17,13 @@ abbrev pub state_after_tick : MapView → ℕ → State → State
 state_after_tick map frame state = state_of state.clients (after_tick map frame state.records)
 
 -- what the arrivals of a frame come to, in the state after its tick
+-- The tick is a part of it, so each definition that begins a frame cites one name.
 abbrev pub received_in : MapView → ℕ → State → List Arrival → Receiving
 received_in map frame state arrivals = received map frame (state_after_tick map frame state) arrivals
 
 -- the state after the moves of a journal, which the replies of the frame show: those that leave are still there
+-- A frame has two states at its end, this one for its replies and the next for the frame after it, so a player that
+-- leaves is shown once more, in the frame in which it leaves.
 abbrev pub moved_by : MapView → Receiving → List Entry → State
 moved_by map r journal =
     state_of r.state.clients

@@ -22,5 +22,7 @@ abbrev pub with_record_at : List (Option Rec) → Rec → List (Option Rec)
 with_record_at records r = slice_set records r.id (Some r)
 
 -- before the first frame the things of the map are there, and nobody is joined
+-- Unfoldable, since its normal form is a list of 512 places that each goal would carry in full; what proofs need of it
+-- are a few lemmas.
 unfoldable pub opening : MapView → State
 opening map = state_of no_clients (fold with_record_at (replicate IDS None) (entities_of map))

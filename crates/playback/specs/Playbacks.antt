@@ -42,6 +42,8 @@ pub record ArePrintable (out : FrameOut) : Type 0 where
 
 -- a frame with these packets was run: its journal is right, has at most 512 entries, and with one worker has the
 -- moves in the order of arrival
+-- That there are at most 512 entries follows from the slots, not from the packets, and needs the server's invariant,
+-- which callers of a playback don't see.
 pub record RunsFrame (workers : ℕ) (old new : ServerView) (arrivals : List Arrival) (journal : List Entry) : Type 0
   where
     pub right : IsRightAfter old.map (received_in old.map old.frames old.state arrivals) journal

@@ -11,6 +11,8 @@ use std::mem;
 use std::sync::Wait;
 use std::thread::Threads;
 
+// An event goes to a server at one place, `take`: a recording and a generator are two ways to get events, printing
+// and totals two things done with a closed frame.
 /// A server, what its last frame gave out but for the journal, and the packets of the frame that is open.
 #[derive(Drop)]
 pub struct Playback {

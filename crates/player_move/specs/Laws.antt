@@ -153,6 +153,7 @@ OnGroundIsStanding =
 
 -- ---- how far a move goes
 -- how far a move that begins with this speed on an axis goes on it, but for stairs
+-- By each axis' own speed, since locks need boxes.
 abbrev pub reach_on : ℤ → ℕ → ℕ
 reach_on speed ms = min greatest_velocity (unsigned_abs speed + MAX_SPEED) * ms / SECOND
 

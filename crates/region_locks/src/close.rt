@@ -41,6 +41,8 @@ fn end_all<A: Action>(words: &SharedWords<A>, mut passes: PassList<A>, logs: &mu
 }
 
 impl<'a, A: Action> NodeTable<'a, A> {
+    // The words are copied into an array and the table is freed before any record is read, so the functions on
+    // records see plain words.
     /// Closes the table: all its passes are ended, each one's entries are put into the empty list, by number, and the
     /// records of the world that the table began with are made those of the shared words. It takes no memory.
     pub fn close(self, passes: PassList<A>, world: &mut World, logs: &mut LogList)

@@ -11,6 +11,8 @@ use entity_recs::{Cmd, Effect, Entry};
 use ruled_words::Hand;
 use std::marker::Model;
 
+// Made of the pass and the command, and asks that the pass is at the point, so no gate can be called of a move that
+// isn't there. It owns its entry while the gate looks at it.
 /// A moment of a move, which is lent to the gate. Only the calls that run moves make one: it has no public constructor
 /// and can't be cloned.
 #[derive(Debug, Drop)]

@@ -21,6 +21,7 @@ use world_tree::{NearList, World};
 /// The passes of a table, in rising number.
 pub type PassList<A> = Vec<Pass<A>>;
 
+// It borrows the action, which a server keeps from frame to frame; the rule has only its snapshot, and no lifetime.
 /// The shared words under their rule.
 #[derive(Drop)]
 pub struct NodeTable<'a, A: Action> {

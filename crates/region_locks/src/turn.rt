@@ -149,6 +149,8 @@ fn turn_at(seat: &Seat) -> Option<Turn>
 }
 
 impl<'a, A: Action> NodeTable<'a, A> {
+    // It names the call that makes the next step, so no caller names words or keeps the order by an invariant of its
+    // own.
     /// The call that makes the pass's next step. `None` exactly where the pass has no command in hand.
     pub fn turn(&self, pass: &Pass<A>) -> Option<Turn>
         requires own { IsOwn A.meaning self.now pass.now }

@@ -7,6 +7,8 @@ const SNAPSHOTS_PER_THREAD: usize = 64;
 /// The most threads that write.
 const MOST_THREADS: usize = 4;
 
+// To start and join a thread costs 20 to 40 microseconds, and the snapshots of a full frame some 24. By one thread
+// for 16 snapshots light frames took a tenth longer.
 /// How many threads write so many snapshots: one for those of a full arena.
 pub fn threads_for(snapshots: usize) -> usize
     ensures some { 0 < result }

@@ -1,3 +1,5 @@
+// One function with an enum for what it does: each place at which a step is made has a constant in it, so the enum
+// costs nothing.
 /// What a step does to its word.
 #[derive(Clone, Copy)]
 pub enum WordStep {

@@ -61,6 +61,8 @@ abbrev pub stopper_at : Bounds → List Bounds → List Rec → Option Rec
 stopper_at b fixed near = if is_blocked b fixed then None else find (is_in_way b) near
 
 -- the solid among these records that a box meets first on its way: none where it meets nothing, or a wall or a block
+-- By the step at which the trace stops, and not by the solid's place in the list, so it doesn't change when solids
+-- that are elsewhere are left out.
 unfoldable pub target_of : Bounds → Vec3 → List Bounds → List Rec → Option Rec
 target_of body way fixed near =
     let hit = trace_of body way (fixed ++ bodies_of_solids near) in

@@ -1,6 +1,8 @@
 use crate::seen::SeenList;
 use entity_recs::Rec;
 
+// A value of its own, so that reading back needs no fact about a world, which readers don't have; its own record has
+// state 0 by definition.
 /// What a player is shown at the end of a frame.
 #[derive(Drop)]
 pub struct Snapshot {

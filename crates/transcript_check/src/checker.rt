@@ -206,6 +206,9 @@ fn expect_lines<S: Source>(
     lines.expect_replies(world, frame, reader, source)
 }
 
+// A `did` line is trusted only for whose move it is: the first move of that player that is left is run, and the line
+// that this gives is compared. The moves run against all other live records, without regions: at 64 players this is
+// as fast.
 /// A plain server between two frames, and what it compares the lines of a transcript with.
 #[derive(Drop)]
 pub struct Checker {

@@ -155,6 +155,8 @@ fn touch(
     }
 }
 
+// All records are filtered and folded in rising id, as the definition has it. The tree's query isn't used, since a
+// move has its records as a list and no world.
 /// What a player touches after its move: the triggers among `near`, the other live records in rising id, whose absolute
 /// boxes touch the player's. One after another, an item is taken, with at most 8 in a move; at a goal what the player
 /// carries is added to its score; a teleporter whose destination is free moves the player there, which ends the walk.

@@ -23,5 +23,7 @@ after_things map records things = fold (after_thing map) records things
 
 -- the records after the tick of a frame: the items that are due return, and then each lift of the map, in rising id,
 -- makes its whole step or none
+-- Lifts are folded over all things of the map, in rising id as the code goes; a thing that isn't a lift has no data
+-- and makes no step.
 unfoldable pub after_tick : MapView → ℕ → List (Option Rec) → List (Option Rec)
 after_tick map frame records = after_things map (after_returns frame records) (entities_of map)

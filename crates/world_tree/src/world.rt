@@ -25,6 +25,9 @@ use std::alloc::{AllocError, Global};
 use std::marker::Model;
 use std::sync::ledger::Ledger;
 
+// Each record's absolute box and the live ids in rising order are kept, so that no query computes them anew; only
+// joins and leaves shift the list. Records are in vectors: an array of 512 in the value would be paid for at entry by
+// each function that holds a world.
 /// The live records, each linked in a list of the node of the areanode tree that its absolute box demands, as Quake's
 /// `SV_LinkEdict` does: list i has the solids of node i, and the list [`Tree::nodes`] further on its triggers. Each live
 /// id is in one list.
@@ -213,6 +216,7 @@ impl World {
         self.lists.copy_from(&o.lists);
     }
 
+    // Found ids are marked and gathered in rising id, so no sort is needed, and the proof goes id by id.
     /// Puts into the empty list, which has room for all records, the live records other than `except` whose absolute
     /// boxes touch the region, in rising id. It looks at those that are linked at the nodes visited for the region's
     /// leaves.
@@ -228,6 +232,7 @@ impl World {
         gather(&self.records, &marks, out);
     }
 
+    // The looks are counted exactly, by the kit's ledger: with 'at most' a body that counts nothing would pass.
     /// Puts into the empty list, which has room for all records, the live triggers whose absolute boxes touch `abs`, in
     /// rising id, as Quake's `SV_TouchLinks`. A look is one node entered or one link followed, and each is counted: one
     /// for each node visited for the leaves of `abs`, and one for each trigger that is linked there.
