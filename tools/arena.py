@@ -124,6 +124,8 @@ def opened(path: str, any_encoding: bool = False) -> Iterator[BinaryIO]:
     name = "standard input" if path == "-" else path
     with contextlib.ExitStack() as stack:
         try:
+            if path == "-" and sys.stdin is None:
+                raise FormatError("standard input is closed")
             file = sys.stdin.buffer if path == "-" else stack.enter_context(open(path, "rb"))
             if file.peek(2)[:2] == GZIP:
                 file = stack.enter_context(gzip.open(file, "rb"))
