@@ -1,5 +1,6 @@
 -- The laws of the receive pass.
-use Rattle.std.proofs.Common.{◌≡◌, ◌⊎◌, ℕ, zero, suc, ◌+◌, ◌≤◌, ◌==◌, Bool, true, false, ◌&&◌, ◌||◌, not, nat_lt, if◌then◌else◌, List, [], ◌∷◌, length, Option, Some, None, option_map, Result, Ok, Err, ok_or, IfOk, sym, refl, ap, ◌∙◌, subst, inl, inr, arith}
+use Rattle.std.proofs.Common.{◌≡◌, ◌⊎◌, ℕ, zero, suc, ◌+◌, ◌<◌, ◌≤◌, ◌==◌, Bool, true, false, ◌&&◌, ◌||◌, not, nat_lt, if◌then◌else◌, List, [], ◌∷◌, length, Option, Some, None, option_map, Result, Ok, Err, ok_or, IfOk, sym, refl, ap, ◌∙◌, subst, inl, inr, arith}
+use Rattle.std.specs.Prelude.{◌↔◌, Contains}
 use Rattle.std.specs.Prelude.{map as map_list}
 use Rattle.std.specs.List.{find}
 use Rattle.std.proofs.lemmas.Bool.{ne_eqb}
@@ -11,6 +12,7 @@ use Rattle.arena_geo.specs.Boxes.{overlaps, is_blocked}
 use Rattle.entity_recs.specs.declared.rec.Rec.{Rec}
 use Rattle.entity_recs.specs.Bodies.{body_of, player_body}
 use Rattle.entity_recs.specs.Kinds.{is_solid}
+use Rattle.entity_recs.proofs.Elements.{contains_kept, contains_before, kept_passes}
 use Rattle.packet_read.specs.declared.packet.Packet.{Packet}
 use Rattle.packet_read.specs.declared.packet.Packet.TheVariants.{Join, Step, Leave, Steps}
 use Rattle.packet_read.specs.declared.packet_fault.PacketFault.{PacketFault}
@@ -92,6 +94,18 @@ live_at-found clients (Some slot) live e = by (client_at clients slot) refl e
         let P : LiveSlot → Type 0 = λ l. client_at clients l.slot ≡ Some l.client in
         subst P same f
 
+-- the new commands are those of the packet whose number is above the last one
+new-each : (last : ℕ) (steps : List MovePacket) (m : MovePacket) → Contains (new_among last steps) m ↔ (Contains steps m × last < m.seq)
+new-each last steps m =
+    let above = λ (n : MovePacket). nat_lt last n.seq in
+    (λ new. (contains_before above steps m new, lt-from (kept_passes above steps m new)), λ both. contains_kept above steps m both.0 (to-lt both.1))
+  where
+    lt-from : nat_lt last m.seq ≡ true → last < m.seq
+    lt-from is = grind (arith, nat_tests)
+
+    to-lt : last < m.seq → nat_lt last m.seq ≡ true
+    to-lt below = grind (arith, nat_tests)
+
 -- the commands of an accepted move packet have numbers above the last one, and are few
 pub steps_accepted : (clients : List (Option Client)) (port : ℕ) (steps : List MovePacket) (live : LiveSlot) → Rise (numbers_in steps) → move_answer clients port steps ≡ Ok live
     → AreAccepted clients steps (new_among live.client.last steps) (moved live (new_among live.client.last steps))
@@ -118,6 +132,7 @@ steps_accepted clients port steps live rise e = by (live_with clients port) refl
           in_slot = in_slot;
           stays = a;
           are_new = refl;
+          each = new-each l.client.last steps;
           some = some-false (length (new_among l.client.last steps)) b;
           rise = new-rise l.client.last steps rise;
           few = few-false (l.client.moves + length (new_among l.client.last steps)) c;

@@ -1,5 +1,5 @@
 -- What holds of the receive pass and of the end of a frame, in the words of the subject.
-use Rattle.std.specs.Prelude.{◌≡◌, ◌⊎◌, ◌↔◌, ℕ, ◌+◌, ◌≤◌, true, false, List, [], ◌∷◌, All, length, take, slice_get}
+use Rattle.std.specs.Prelude.{◌≡◌, ◌⊎◌, ◌↔◌, ℕ, ◌+◌, ◌<◌, ◌≤◌, true, false, List, [], ◌∷◌, All, Contains, length, take, slice_get}
 use Rattle.std.specs.Prelude.{Option, Some, None, Ok, if◌then◌else◌}
 use Rattle.arena_geo.specs.Boxes.{overlaps, is_blocked}
 use Rattle.entity_recs.specs.declared.limits.TheConstants.{IDS}
@@ -64,7 +64,7 @@ JoinsAreAtTheFirstRoom =
     (map : MapView) (state : State) (port : ℕ) (to : Place) → AreClients state.clients → IsState map state
     → join_answer map state port ≡ Ok to → IsAtFirstRoom map state to
 
--- commands of a move packet are accepted: those whose number is above the last accepted one of the client. Their
+-- commands of a move packet are accepted: exactly those whose number is above the last accepted one of the client. Their
 -- numbers rise, and the last of them becomes the last accepted one; and with the moves of the client that were accepted in
 -- the frame before they are at most 8
 pub record AreAccepted (clients : List (Option Client)) (steps new : List MovePacket) (live : LiveSlot) : Type 0 where
@@ -72,6 +72,7 @@ pub record AreAccepted (clients : List (Option Client)) (steps new : List MovePa
   pub in_slot : client_at clients live.slot ≡ Some was
   pub stays : was.leaves ≡ false
   pub are_new : new ≡ new_among was.last steps
+  pub each : (m : MovePacket) → Contains new m ↔ (Contains steps m × was.last < m.seq)
   pub some : 1 ≤ length new
   pub rise : RiseFrom was.last (numbers_in new)
   pub few : was.moves + length new ≤ 8

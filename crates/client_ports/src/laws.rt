@@ -55,9 +55,10 @@ pub fn joins_add_newcomers()
     ensures { JoinsAddNewcomers }
 {}
 
-/// Of a move packet the commands are accepted whose number is above the last accepted one, all or none: there is one at
-/// least, their numbers rise, the last of them becomes the last accepted one, and with the moves of the client that were
-/// accepted in the frame before they are at most 8. So numbers rise, and a player has at most 8 moves in a frame.
+/// Of a move packet exactly the commands are accepted whose number is above the last accepted one, also where numbers were
+/// passed over before them, all or none: there is one at least, their numbers rise, the last of them becomes the last
+/// accepted one, and with the moves of the client that were accepted in the frame before they are at most 8. So numbers
+/// rise, and a player has at most 8 moves in a frame.
 pub fn accepted_numbers_rise()
     ensures { AcceptedNumbersRise }
 {}

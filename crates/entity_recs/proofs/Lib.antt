@@ -2,3 +2,6 @@
 pub mod Standing
 pub mod KnownBoxes
 pub mod Ids
+pub mod Elements
+pub mod Seeing
+pub mod Reach

@@ -11,3 +11,5 @@ pub mod Worlds
 pub mod Histories
 pub mod Actions
 pub mod Laws
+pub mod Moves
+pub mod Touches

@@ -11,7 +11,8 @@ pub use effect::{Effect, Entry, NewState, Reply};
 pub use kind::Kind;
 pub use laws::{
     abs_contains_body, abs_ignores_state, boxes_are_known, clones_are_the_records,
-    records_have_boxes, sizes_are_known,
+    effects_change_what_is_listed, moves_see_all_others, others_are_known, records_have_boxes,
+    sizes_are_known, touches_are_known,
 };
 pub use limits::{IDS, SLOTS};
 pub use lists::{IdList, LIST_LEN, StateList};

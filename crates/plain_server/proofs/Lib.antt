@@ -27,6 +27,7 @@ pub mod States
 pub mod Begun
 pub mod Down
 pub mod Unhit
+pub mod Kept
 pub mod HitOnce
 pub mod Decided
 pub mod Takers

@@ -18,7 +18,7 @@ use Rattle.plain_server.proofs.Runs.{entries_of, IsRun, first_live, entry_is, ru
 use Rattle.plain_server.proofs.Frames.{received_is}
 
 -- in a history that runs
-unhit_through : (map : MapView) (place : ℕ) (records : List (Option Rec)) (items : List Item) (slot : ℕ) → IsMap map → IsRun map place records items
+pub unhit_through : (map : MapView) (place : ℕ) (records : List (Option Rec)) (items : List Item) (slot : ℕ) → IsMap map → IsRun map place records items
     → HasNoEntryOf slot (entries_of items) → HasNoHitOn slot (entries_of items) → record_at (after_all map records (commands_of items)) slot ≡ record_at records slot
 unhit_through map place records [] slot is_map is none unhit = refl
 unhit_through map place records (item ∷ items) slot is_map is none unhit =

@@ -24,6 +24,7 @@ pub mod Entries
 pub mod Frames
 pub mod Takers
 pub mod Ends
+pub mod Kept
 pub mod Hits
 pub mod Replies
 pub mod Laws

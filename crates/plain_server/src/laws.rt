@@ -3,6 +3,7 @@ ghost use Rattle.plain_server.specs.Laws.{MovesKeepWorldsValid, WorldsStayValid,
 ghost use Rattle.plain_server.specs.Laws.{FramesAreInTurn, JournalsAreRightInOrder, OrderLeavesOneJournalEach};
 ghost use Rattle.plain_server.specs.Laws.{RightJournalsAreInRange, FramesEndWithTheirMoves};
 ghost use Rattle.plain_server.specs.Laws.{FramesHaveOneTaker, OnlyItemsAndPlayersAreGot, ItemsHaveOneTaker, TakenItemsStayAway};
+ghost use Rattle.plain_server.specs.Kept.{MovesLeaveWhatTheyMade};
 ghost use Rattle.plain_server.specs.Numbers.{NumbersRiseAcrossFrames};
 ghost use Rattle.plain_server.specs.Hits.{NobodyIsDownForLong, OnlyHitsHurt, EntriesHitOneAtMost};
 ghost use Rattle.plain_server.specs.Hits.{JournalsDecideStates, FramesBeginWithStates};
@@ -91,6 +92,13 @@ pub fn taken_items_stay_away()
 /// these records. The next frame begins with them, but for those of the players that leave.
 pub fn frames_end_with_their_moves()
     ensures { FramesEndWithTheirMoves }
+{}
+
+/// After the moves of a right journal of a frame the things of the map are as the receive pass left them but for their
+/// state, and those that no entry got with their state. The record of a player that moved is what its last move made of it,
+/// in the world after the moves before that one, but for its state, which the hits after it may have changed.
+pub fn moves_leave_what_they_made()
+    ensures { MovesLeaveWhatTheyMade }
 {}
 
 /// After any frames, with whatever journals, a player's state is one that hits can make of none: damage below 100, or that

@@ -7,3 +7,4 @@ pub mod Gaining
 pub mod Leaving
 pub mod Leaping
 pub mod Bounds
+pub mod Reach

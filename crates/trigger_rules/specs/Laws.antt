@@ -1,5 +1,5 @@
 -- What holds of every walk over what a player touches.
-use Rattle.std.specs.Prelude.{◌≡◌, ◌≢◌, ◌⊎◌, ℕ, ◌+◌, ◌-◌, ◌*◌, ◌<◌, ◌≤◌, ◌==◌, min, bit_or, Bool, true, false, ◌&&◌}
+use Rattle.std.specs.Prelude.{◌≡◌, ◌≢◌, ◌⊎◌, ◌↔◌, ℕ, ◌+◌, ◌-◌, ◌*◌, ◌<◌, ◌≤◌, ◌==◌, min, bit_or, Bool, true, false, ◌&&◌}
 use Rattle.std.specs.Prelude.{List, ◌∷◌, ◌++◌, map, length, count_by, Contains, All, Some}
 use Rattle.std.specs.List.{IsDistinct, list_any}
 use Rattle.std.specs.List.Sorted.{IsStrictlyIncreasing}
@@ -14,8 +14,17 @@ use Rattle.entity_recs.specs.declared.rec.Rec.{Rec}
 use Rattle.entity_recs.specs.Kinds.{number_of, is_item}
 use Rattle.entity_recs.specs.Records.{IsRecord, HasCorners}
 use Rattle.entity_recs.specs.Bodies.{body_of, abs_of, player_body, is_touched}
+use Rattle.entity_recs.specs.Touches.{IsInReach}
 use Rattle.arena_map.specs.Maps.{MapView, IsMap, dest_of, delay_of}
 use Rattle.trigger_rules.specs.Touching.{touched_by, solids_among, Walk, touched}
+
+-- a player within its bounds touches those of the records that are in its reach, each and no others; their ids rise, where
+-- those of the records do
+pub record TouchedAreInReach : Type 0 where
+  pub each : (me : Rec) (near : List Rec) (r : Rec) → IsRecord me → me.kind ≡ Player
+      → Contains (touched_by me near) r ↔ (Contains near r × IsInReach me.origin r)
+  pub rising : (me : Rec) (near : List Rec) → IsStrictlyIncreasing (map (λ r. r.id) near)
+      → IsStrictlyIncreasing (map (λ r. r.id) (touched_by me near))
 
 -- the player has at most 100 of ammunition and carries at most 8 gems
 pub record HasFewThings (me : Rec) : Type 0 where

@@ -4,6 +4,7 @@ pub use Rattle.arena_geo.specs.Boxes
 pub use Rattle.entity_recs.specs.Kinds
 pub use Rattle.entity_recs.specs.Records
 pub use Rattle.entity_recs.specs.Bodies
+pub use Rattle.entity_recs.specs.Touches
 pub use Rattle.arena_map.specs.Maps
 pub use Rattle.item_rules.specs.Items
 pub mod Touching

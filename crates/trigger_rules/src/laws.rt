@@ -1,4 +1,5 @@
 ghost use Rattle.trigger_rules.specs.Laws.{
+  TouchedAreInReach,
   ThingsStayFew,
   ItemsWereThere,
   GotIdsRise,
@@ -18,6 +19,14 @@ ghost use Rattle.trigger_rules.specs.Laws.{
   GoalsTakeWhatIsCarried,
   ItemsAreLeftWithoutRoom,
 };
+
+/// A player within its bounds touches (`touched_by`) those of the records that are in its reach, each and no others:
+/// ammunition and gems with a body that comes as near to its origin as 8,192 on x and y, 6,400 below and 8,448 above; and
+/// teleporters and goals with one that comes as near as 4,608 on x and y, 6,656 below and 8,704 above. Their ids rise,
+/// where those of the records do.
+pub fn touched_are_in_reach()
+    ensures { TouchedAreInReach }
+{}
 
 /// Nobody's ammunition passes 100, and nobody carries more than 8 gems.
 pub fn things_stay_few()

@@ -1,6 +1,6 @@
 use super::report_of;
 use edge_io::{MemSink, MemSource};
-use std::alloc::AllocGlobal;
+use std::alloc::{AllocError, AllocGlobal, Global};
 use std::process::Abort;
 use std::sync::Wait;
 use std::test::Fail;
@@ -34,6 +34,25 @@ const PRESSED: &str =
 const PRESSED_OUTPUT: &str =
     "frame 0\njoined 7 0\nto 0 0100000000000000000000000000002c0000000000000000000000000000000000000000000000000001004000050100ceffff00ceffff000a0000\nframe 1\nto 0 0101000000000000000000000000002c0000000000000000000000000000000000000000000000000001004000050100ceffff00ceffff000a0000\nend 2\n";
 
+/// An arena with two spawns, 199 items out of sight of both, the item of [`ONE_ITEM`], which gets the id 263, and two frames.
+fn with_item_263(alloc: Global) -> Result<String, AllocError> {
+    let mut text = String::new(alloc);
+    text.push_str(
+        "arena -131072 -131072 0 1048576 131072 65536\nspawn 24096 14000 6144\nspawn 24096 -14000 6144\n",
+    )?;
+    for _ in 0..199u16 {
+        text.push_str("item 1000000 0 0 gem 100\n")?;
+    }
+    text.push_str(
+        "item 20000 -4096 0 ammo 100\nframe\nfrom 7 0101\nfrom 8 0101\nfrom 7 010201000000320000c0fe00\nfrom 8 010201000000320000400100\nframe\nfrom 8 010202000000320000000000\nend\n",
+    )?;
+    Ok(text)
+}
+
+/// The first player to move takes the item; the second, which touches it in both frames, finds it away.
+const ITEM_263_OUTPUT: &str =
+    "frame 0\njoined 7 0\njoined 8 1\ndid 0 1 24096 11952 6144 263\ndid 1 1 24096 -11952 6144 -\nto 0 010000000000205e0000b02e000000180000000000000060ffff000000000114000000000001000000020001000001205e000050d1ffff0018000007010100204e000000f0ffff00000000\nto 1 010000000001205e000050d1ffff001800000000000000a00000000000000100000000000001000000020000000001205e0000b02e00000018000007010100204e000000f0ffff00000000\nframe 1\ndid 1 2 24096 -10314 6144 -\nto 0 010100000000205e0000b02e000000180000000000000060ffff000000000114000000000001000000020001000001205e0000b6d7ffff0018000007010100204e000000f0ffff00000000\nto 1 010100000001205e0000b6d7ffff001800000000000000800000000000000100000000000002000000020000000001205e0000b02e00000018000007010100204e000000f0ffff00000000\nend 2\n";
+
 /// Plays a recording, and compares how its output begins.
 fn expect_front(
     rt: &(impl AllocGlobal + Abort + Threads + Wait + Sync),
@@ -61,4 +80,10 @@ fn things_have_their_effects(rt: HostRuntime) -> Result<(), Fail> {
         expect_front(&rt, recording, front)?;
     }
     Ok(())
+}
+
+#[test]
+fn things_of_high_ids_are_taken(rt: HostRuntime) -> Result<(), Fail> {
+    let recording = with_item_263(rt.alloc())?;
+    expect_front(&rt, &recording, ITEM_263_OUTPUT)
 }
