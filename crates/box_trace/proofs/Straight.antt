@@ -33,7 +33,7 @@ part_at-below k n (pos zero) below =
 part_at-below k n (pos (suc a)) below = absurd (omega (arith, ints))
 part_at-below k n (negsuc a) below = rw part_at-neg (omega (arith, ints))
 
-share_at : (k n : ℕ) (whole : ℤ) → 0 < n → IsShareOf k n whole (part_at n k whole)
+pub share_at : (k n : ℕ) (whole : ℤ) → 0 < n → IsShareOf k n whole (part_at n k whole)
 share_at k n whole some =
     is_quotient (unsigned_abs whole) k n _ some refl whole (part_at n k whole) refl (unsigned_abs-part_at n k whole) (part_at-above k n whole) (part_at-below k n whole)
 
