@@ -1,12 +1,10 @@
 -- Where the moves of a bot lead.
-use Rattle.std.proofs.Common.{◌≡◌, ℕ, zero, suc, ◌+◌, ◌*◌, ◌<◌, ◌≤◌, List, [], ◌∷◌, ◌++◌, length, map, Some, slice_get, ℤ, ◌-ℤ◌, refl, ap, ◌∙◌, subst, sym, arith}
-use Rattle.std.specs.Prelude.{unsigned_abs}
+use Rattle.std.proofs.Common.{◌≡◌, ℕ, zero, suc, ◌+◌, ◌<◌, List, [], ◌∷◌, length, map, Some, slice_get, ℤ, ◌-ℤ◌, refl, ap, ◌∙◌, subst, sym, arith}
 use Rattle.std.specs.List.{range_with_len}
 use Rattle.std.proofs.lemmas.List.FromFn.{length-map-range_with_len}
 use Rattle.arena_geo.specs.declared.vec3.Vec3.{Vec3}
 use Rattle.box_trace.proofs.Straight.{share_at}
 use Rattle.packet_read.specs.declared.arrival.Arrival.{Arrival}
-use Rattle.arena_map.specs.Maps.{MapView}
 use Rattle.bot_ways.specs.Edges.{distance}
 use Rattle.bot_ways.specs.Moves.{places_of, wish_along, move_towards, moves_between, move_frame, frames_between, frames_through}
 use Rattle.bot_ways.specs.BotMoves.{IsWishFor, LeadsTowards, HasMoveTowards, LeadFrom, LeadThrough, nowhere, there, further, BotsFollowTheirWays}
