@@ -16,3 +16,4 @@ pub mod Causes
 pub mod Opening
 pub mod ThingData
 pub mod LineThings
+pub mod LineParts

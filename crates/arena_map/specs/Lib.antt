@@ -22,3 +22,4 @@ pub mod KeptRules
 pub mod Validity
 pub mod Laws
 pub mod LineThings
+pub mod LineParts

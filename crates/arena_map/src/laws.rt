@@ -2,6 +2,7 @@ ghost use Rattle.arena_map.specs.Laws.{LinesKeepTheRules, BrokenRulesAreTheFirst
 ghost use Rattle.arena_map.specs.Laws.{FieldsAreSpaced, DataFollowKinds, LiveRecordsHaveData, OpeningWorldIsValid};
 ghost use Rattle.arena_map.specs.Laws.{LiftsStayInside, LimitsAreKnown};
 ghost use Rattle.arena_map.specs.LineThings.{LinesGiveTheirThings};
+ghost use Rattle.arena_map.specs.LineParts.{LinesChangeTheirParts};
 
 /// A map that lines begin and lengthen without breaking a rule keeps all of them, and lines that give a map which keeps
 /// them break none.
@@ -54,6 +55,13 @@ pub fn lifts_stay_inside()
 /// lowest place, rise and speed that the line says, and no other data. No other id has data.
 pub fn lines_give_their_things()
     ensures { LinesGiveTheirThings }
+{}
+
+/// The line of an arena begins a map with nothing in it, of depth 4 and without shots. The line of a block, a spawn or a
+/// thing puts it after those that the map has, that of a depth sets the depth, and that of shots lets players shoot; each
+/// changes nothing else. The solids are the walls, and then the blocks in their order.
+pub fn lines_change_their_parts()
+    ensures { LinesChangeTheirParts }
 {}
 
 /// The limits of a map have the values that the documents say: 1,024 blocks, 64 spawns, 400 items, 16 teleporters, 16 goals

@@ -3,8 +3,8 @@
 
 pub use laws::{
     broken_rules_are_the_first, data_follow_kinds, fields_are_spaced, lifts_stay_inside,
-    limits_are_known, lines_give_their_things, lines_keep_the_rules, live_records_have_data,
-    map_lines_read_back, opening_world_is_valid, solids_have_walls,
+    limits_are_known, lines_change_their_parts, lines_give_their_things, lines_keep_the_rules,
+    live_records_have_data, map_lines_read_back, opening_world_is_valid, solids_have_walls,
 };
 pub use lift::Lift;
 pub use limits::{

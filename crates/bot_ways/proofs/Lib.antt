@@ -11,6 +11,7 @@ pub mod Gathering
 pub mod WalkSteps
 pub mod MapsBefore
 pub mod PlansRead
+pub mod BotMoves
 pub mod ThingLines
 pub mod LineRooms
 pub mod FarLengths

@@ -19,3 +19,4 @@ pub mod Rooms
 pub mod Things
 pub mod Walking
 pub mod Laws
+pub mod BotMoves

@@ -1,5 +1,6 @@
 ghost use Rattle.bot_ways.specs.Laws.{EdgesAreKnown, CertificatesAreLeast, WaysAreUnique};
 ghost use Rattle.bot_ways.specs.Laws.{PlansAreRecordings, LengthsAreWritten, MovesAreKnown, PlanTextsAreBounded};
+ghost use Rattle.bot_ways.specs.BotMoves.{BotsFollowTheirWays};
 
 /// An edge leads from one waypoint to another exactly where they have one height, are apart, but at most 65,536 from each
 /// other on each axis, and no wall or block overlaps a player's body at the one or at a step of its way to the other. Its
@@ -34,6 +35,13 @@ pub fn lengths_are_written()
 /// those moves.
 pub fn moves_are_known()
     ensures { MovesAreKnown }
+{}
+
+/// A bot joins from port 1, and then follows its way: from each waypoint to the next come as few frames as cover the
+/// distance by 4,096 each, and each has one move towards the next waypoint, of 50 milliseconds and without a button. On each
+/// axis it wishes the share of 320 that its part of the distance has, cut toward 0 and with the sign of that part.
+pub fn bots_follow_their_ways()
+    ensures { BotsFollowTheirWays }
 {}
 
 /// What is written of a plan has at most 60 bytes for the arena, 8 for the depth, 6 for shots, 60 for each block, 33 for

@@ -3,8 +3,8 @@
 #![tactic(auto)]
 
 pub use laws::{
-    certificates_are_least, edges_are_known, lengths_are_written, moves_are_known,
-    plan_texts_are_bounded, plans_are_recordings, ways_are_unique,
+    bots_follow_their_ways, certificates_are_least, edges_are_known, lengths_are_written,
+    moves_are_known, plan_texts_are_bounded, plans_are_recordings, ways_are_unique,
 };
 pub use lists::{LeastList, MOST_WAYPOINTS, WayList};
 pub use plan::{Plan, plan_way};

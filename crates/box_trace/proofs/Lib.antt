@@ -11,3 +11,4 @@ pub mod WallBoxes
 pub mod Stops
 pub mod HitAxes
 pub mod Insides
+pub mod Straight

@@ -1,5 +1,6 @@
 -- What holds of all traces, and of the walls of all arenas.
-use Rattle.std.specs.Prelude.{◌≡◌, ◌≢◌, ℕ, ◌+◌, ◌≤◌, ◌<◌, ◌↔◌, Bool, true, false, List, Some, slice_get, pos}
+use Rattle.std.specs.Prelude.{◌≡◌, ◌≢◌, ℕ, ◌+◌, ◌*◌, ◌≤◌, ◌<◌, ◌↔◌, Bool, true, false, List, Some, slice_get}
+use Rattle.std.specs.Prelude.{ℤ, pos, ◌≤ℤ◌, unsigned_abs}
 use Rattle.arena_geo.specs.declared.vec3.Vec3.{Vec3}
 use Rattle.arena_geo.specs.Bounds.{Bounds, IsInRange, IsOrdered}
 use Rattle.arena_geo.specs.Boxes.{moved, contains, overlaps_on, overlaps, is_blocked}
@@ -8,7 +9,7 @@ use Rattle.box_trace.specs.declared.hit.Hit.{Hit}
 use Rattle.box_trace.specs.declared.hit.TheConstants.{MOST_SOLIDS}
 use Rattle.box_trace.specs.declared.way.TheConstants.{REACH}
 use Rattle.box_trace.specs.Axes.{number_of, part}
-use Rattle.box_trace.specs.Steps.{step_count, body_at}
+use Rattle.box_trace.specs.Steps.{step_count, shift_at, body_at}
 use Rattle.box_trace.specs.Traces.{IsFreeWay, IsTrace, trace_of}
 use Rattle.box_trace.specs.Walls.{walls_of, HaveWalls}
 
@@ -22,6 +23,30 @@ abbrev pub TraceIsUnique : Type 0
 TraceIsUnique =
     (body : Bounds) (d : Vec3) (solids : List Bounds) (hit : Hit)
     → IsTrace body d solids hit ↔ (hit ≡ trace_of body d solids)
+
+-- n is the greatest of the parts of a displacement, signs left out
+pub record IsGreatestPart (d : Vec3) (n : ℕ) : Type 0 where
+  pub most : (axis : Axis) → unsigned_abs (part axis d) ≤ n
+  pub axis : Axis
+  pub reached : unsigned_abs (part axis d) ≡ n
+
+-- the shift is k parts in n of the whole, cut toward 0: it lies on the side of 0 on which the whole lies
+pub record IsShareOf (k n : ℕ) (whole shift : ℤ) : Type 0 where
+  pub least : unsigned_abs shift * n ≤ unsigned_abs whole * k
+  pub most : unsigned_abs whole * k < (unsigned_abs shift + 1) * n
+  pub stays_positive : pos 0 ≤ℤ whole → pos 0 ≤ℤ shift
+  pub stays_negative : whole ≤ℤ pos 0 → shift ≤ℤ pos 0
+
+-- the way has n steps, at step k of which the body is shifted by k parts in n of the displacement on each axis
+pub record GoesStraight (body : Bounds) (d : Vec3) (k n : ℕ) : Type 0 where
+  pub steps : step_count d ≡ n
+  pub shifted : body_at body d k ≡ moved body (shift_at d k)
+  pub share : (axis : Axis) → IsShareOf k n (part axis d) (part axis (shift_at d k))
+
+-- a body goes straight, in as many steps as the greatest part of its displacement has sub-units
+abbrev pub WaysAreStraight : Type 0
+WaysAreStraight =
+    (body : Bounds) (d : Vec3) (k n : ℕ) → IsGreatestPart d n → 0 < n → k ≤ n → GoesStraight body d k n
 
 -- a body is in range at every step exactly where it is in range at both ends of its way
 abbrev pub StepsStayInRange : Type 0

@@ -1,6 +1,6 @@
 ghost use Rattle.box_trace.specs.Laws.{LimitsAreKnown, TraceIsUnique, StepsStayInRange, StepsAreFree, FreeWayIsGone};
 ghost use Rattle.box_trace.specs.Laws.{NamedSolidStops, AxisIsMovedAlong, FirstAxisIsNamed, WallsLeaveInsideFree};
-ghost use Rattle.box_trace.specs.Laws.{TraceStaysInside};
+ghost use Rattle.box_trace.specs.Laws.{WaysAreStraight, TraceStaysInside};
 
 /// A displacement has no part that is more than 65,536 from 0, and there are at most 65,535 solids.
 pub fn limits_are_known()
@@ -10,6 +10,12 @@ pub fn limits_are_known()
 /// Each body, displacement and list of solids has one trace.
 pub fn trace_is_unique()
     ensures { TraceIsUnique }
+{}
+
+/// A body goes straight along its displacement, in as many steps as the greatest part of it has sub-units, signs left
+/// out: at each step each axis has come by its share of the steps, cut toward 0.
+pub fn ways_are_straight()
+    ensures { WaysAreStraight }
 {}
 
 /// A body in range stays in range at every step exactly where it is in range at the end of its way.

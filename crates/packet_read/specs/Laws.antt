@@ -1,10 +1,12 @@
 -- What holds of spellings and causes.
-use Rattle.std.specs.Prelude.{◌≡◌, ◌↔◌, ℕ, ◌+◌, List, length, Some, None, option_map, Ok, Err}
+use Rattle.std.specs.Prelude.{◌≡◌, ◌↔◌, ℕ, ◌+◌, List, [], ◌∷◌, length, Some, None, option_map, Ok, Err}
 use Rattle.std.specs.List.{slice_get}
 pub use Rattle.byte_lists.specs.Bytes.{AreBytes}
+use Rattle.packet_read.specs.declared.block_list.CmdBlock.{CmdBlock}
+use Rattle.packet_read.specs.declared.move_packet.MovePacket.{MovePacket}
 use Rattle.packet_read.specs.declared.steps_packet.StepsPacket.{StepsPacket}
 use Rattle.packet_read.specs.declared.packet.Packet.{Packet}
-use Rattle.packet_read.specs.declared.packet.Packet.TheVariants.{Steps}
+use Rattle.packet_read.specs.declared.packet.Packet.TheVariants.{Join, Step, Leave, Steps}
 use Rattle.packet_read.specs.declared.packet_fault.PacketFault.{PacketFault}
 use Rattle.packet_read.specs.declared.block_list.TheConstants.{MOST_BLOCKS}
 use Rattle.packet_read.specs.declared.packet_bytes.TheConstants.{MOST_PACKET_BYTES}
@@ -37,10 +39,23 @@ pub record LimitsAreKnown : Type 0 where
   pub most_bytes : MOST_PACKET_BYTES ≡ 64
   pub most_commands : MOST_BLOCKS ≡ 3
 
--- a packet of version 2 has as many commands as blocks: command i, from 0, has the fields of block i, and a number i above
--- the first; within the limits the newest has the packet's number
+-- the command has this number and the fields of this block
+pub record IsNumbered (seq : ℕ) (block : CmdBlock) (command : MovePacket) : Type 0 where
+  pub seq_is : command.seq ≡ seq
+  pub ms_is : command.ms ≡ block.ms
+  pub wish_x_is : command.wish_x ≡ block.wish_x
+  pub wish_y_is : command.wish_y ≡ block.wish_y
+  pub buttons_are : command.buttons ≡ block.buttons
+
+-- a move packet of version 1 is its own one command, and a join or a leave has none; a packet of version 2 has as many
+-- commands as blocks: command i, from 0, has the fields of block i, and a number i above the first; within the limits the
+-- newest has the packet's number
 pub record CommandsAreNumbered : Type 0 where
+  pub move : (m : MovePacket) → commands_of (Step m) ≡ m ∷ []
+  pub join : commands_of Join ≡ []
+  pub leave : commands_of Leave ≡ []
   pub many : (s : StepsPacket) → length (commands_of (Steps s)) ≡ length s.cmds
   pub each : (s : StepsPacket) (i : ℕ)
       → slice_get (commands_of (Steps s)) i ≡ option_map (numbered (first_seq s + i)) (slice_get s.cmds i)
+  pub fields : (seq : ℕ) (block : CmdBlock) → IsNumbered seq block (numbered seq block)
   pub newest : (s : StepsPacket) → IsAllowedSteps s → first_seq s + length s.cmds ≡ s.seq + 1

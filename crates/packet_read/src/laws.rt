@@ -21,7 +21,8 @@ pub fn limits_are_known()
     ensures { LimitsAreKnown }
 {}
 
-/// The commands of a packet of version 2 have numbers that rise by one, up to that of the packet, and keep their fields.
+/// A move packet of version 1 is its own one command, and a join or a leave has none. The commands of a packet of version
+/// 2 have numbers that rise by one, up to that of the packet, and keep their fields.
 pub fn commands_are_numbered()
     ensures { CommandsAreNumbered }
 {}

@@ -8,4 +8,5 @@ pub mod Fields
 pub mod Again
 pub mod Rules
 pub mod Sights
+pub mod OwnPart
 pub mod InSight

@@ -16,3 +16,4 @@ pub mod Spelling
 pub mod Shown
 pub mod Laws
 pub mod InSight
+pub mod OwnPart

@@ -1,5 +1,6 @@
 ghost use Rattle.snapshot_write.specs.Laws as laws;
 ghost use Rattle.snapshot_write.specs.InSight.{ShowWhatIsWithinSight};
+ghost use Rattle.snapshot_write.specs.OwnPart.{ShowPlayersThemselves};
 
 /// Bytes break no rule of the format exactly where they spell some snapshot.
 pub fn no_cause_where_spelled()
@@ -31,6 +32,12 @@ pub fn snapshots_show_who_is_in_sight()
 /// are there but the items whose state isn't 0.
 pub fn snapshots_show_what_is_within_sight()
     ensures { ShowWhatIsWithinSight }
+{}
+
+/// The snapshot of a player shows the frame, and each field of the player's own record as it is, but for its state, which is
+/// shown as 0; its bytes have them at their places.
+pub fn snapshots_show_players_themselves()
+    ensures { ShowPlayersThemselves }
 {}
 
 /// Two players of a world see a third in one place, and each other where they see themselves.

@@ -29,7 +29,7 @@ scaled_times x gain whole =
     times_same_side (scaled x (pos gain) whole) x (scaled_stays_positive x gain whole) (scaled_stays_negative x gain whole)
     ∙ ap (λ n. pos (n * unsigned_abs x)) (abs-scaled x (pos gain) whole)
 
-times_sum : (a s x : ℤ) → (a +ℤ s) *ℤ x ≡ a *ℤ x +ℤ s *ℤ x
+pub times_sum : (a s x : ℤ) → (a +ℤ s) *ℤ x ≡ a *ℤ x +ℤ s *ℤ x
 times_sum a s x =
     let sum : up (a +ℤ s) + down a + down s ≡ down (a +ℤ s) + up a + up s = omega (arith, ints) in
     omega (arith, ints, ap (λ n. n * up x) sum, ap (λ n. n * down x) sum)

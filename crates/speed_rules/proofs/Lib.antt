@@ -5,6 +5,7 @@ pub mod Slowing
 pub mod Pushing
 pub mod Aiming
 pub mod Capping
+pub mod Crossing
 pub mod Entering
 pub mod Typed
 pub mod Together

@@ -11,10 +11,11 @@ use Rattle.speed_rules.specs.Rules.{jumped, friction_of, friction_at, accelerate
 use Rattle.speed_rules.specs.Wishes.{wish_length, part_along_wish, wish_cap, wish_gain}
 use Rattle.speed_rules.specs.Changes.{Shortens}
 use Rattle.speed_rules.specs.Together.{fallen, launched, HeightsAreKnown, FliersKeepTheirCourse, IsSlowed, WalkersAreSlowed, HasRoomToGain, IsLed, WishesAreFollowed}
-use Rattle.speed_rules.specs.Laws.{StopsAtCap, ReachesCap}
+use Rattle.speed_rules.specs.Laws.{StopsAtCap, ReachesCap, ChangesAlong}
 use Rattle.speed_rules.proofs.Slowing.{friction_shortens}
 use Rattle.speed_rules.proofs.Pushing.{acceleration_is_bounded}
 use Rattle.speed_rules.proofs.Capping.{acceleration_stops_at_the_cap, acceleration_reaches_the_cap}
+use Rattle.speed_rules.proofs.Crossing.{acceleration_acts_along_the_wish}
 
 -- ---- the clamp
 -- a part in range is kept
@@ -84,10 +85,14 @@ cut_added old new most small few adds = omega (arith, ints, clamps)
 pub most_gained : (ms : ℕ) → ms ≤ 50 → 10 * 81920 * ms / 1000 ≤ 40960
 most_gained ms brief = omega arith
 
+changes_along : (old v w : Vec3) (wish_x wish_y : ℤ) → w.x ≡ v.x → w.y ≡ v.y → ChangesAlong wish_x wish_y old v → ChangesAlong wish_x wish_y old w
+changes_along old v w wish_x wish_y x_is y_is changes =
+    record { along = rw (x_is, y_is) changes.along; across = rw (x_is, y_is) changes.across }
+
 -- the velocity w has the course of v with its gain, so its wish leads it to this cap
 led : (v w : Vec3) (wish_x wish_y : ℤ) (ms cap : ℕ) (on_ground : Bool) → ms ≤ 50 → wish_cap on_ground wish_x wish_y ≡ cap
     → w.x ≡ (accelerated v wish_x wish_y ms on_ground).x → w.y ≡ (accelerated v wish_x wish_y ms on_ground).y
-    → IsLed cap (wish_length wish_x wish_y) ms (part_along_wish v wish_x wish_y) (part_along_wish w wish_x wish_y)
+    → IsLed cap (wish_length wish_x wish_y) ms wish_x wish_y v w
 led v w wish_x wish_y ms cap on_ground brief cap_is x_is y_is =
     let a = accelerated v wish_x wish_y ms on_ground in
     let old = part_along_wish v wish_x wish_y in
@@ -96,12 +101,13 @@ led v w wish_x wish_y ms cap on_ground brief cap_is x_is y_is =
     record {
       stops = subst (λ (new : ℤ). StopsAtCap cap gain old new) same (subst (λ (c : ℕ). StopsAtCap c gain old (part_along_wish a wish_x wish_y)) cap_is (acceleration_stops_at_the_cap v wish_x wish_y ms on_ground brief));
       reaches = λ some. subst (λ (new : ℤ). ReachesCap cap gain old new) same (subst (λ (c : ℕ). ReachesCap c gain old (part_along_wish a wish_x wish_y)) cap_is (acceleration_reaches_the_cap v wish_x wish_y ms on_ground some));
+      along = λ some. changes_along v a w wish_x wish_y x_is y_is (acceleration_acts_along_the_wish v wish_x wish_y ms on_ground some);
     }
 
 -- so is a velocity that is v with its gain, but for z, after the clamp
 led_in_range : (v : Vec3) (wish_x wish_y : ℤ) (ms cap : ℕ) (on_ground : Bool) (z : ℤ) → HasRoomToGain v → ms ≤ 50 → wish_cap on_ground wish_x wish_y ≡ cap
-    → IsLed cap (wish_length wish_x wish_y) ms (part_along_wish v wish_x wish_y)
-    (part_along_wish (record { x = cut (accelerated v wish_x wish_y ms on_ground).x; y = cut (accelerated v wish_x wish_y ms on_ground).y; z = z }) wish_x wish_y)
+    → IsLed cap (wish_length wish_x wish_y) ms wish_x wish_y v
+    (record { x = cut (accelerated v wish_x wish_y ms on_ground).x; y = cut (accelerated v wish_x wish_y ms on_ground).y; z = z })
 led_in_range v wish_x wish_y ms cap on_ground z room brief cap_is =
     let a = accelerated v wish_x wish_y ms on_ground in
     let adds = acceleration_is_bounded v wish_x wish_y ms on_ground in
@@ -114,20 +120,30 @@ slowed_has_room old new room shortens = record { x = omega (arith, shortens.x.no
 in_the_air : (wish_x wish_y : ℤ) → wish_cap false wish_x wish_y ≡ min (wish_length wish_x wish_y) 7680
 in_the_air wish_x wish_y = omega arith
 
+-- two velocities that have the same course are led alike
+led_from : (v w new : Vec3) (cap len ms : ℕ) (wish_x wish_y : ℤ) → w.x ≡ v.x → w.y ≡ v.y → IsLed cap len ms wish_x wish_y v new → IsLed cap len ms wish_x wish_y w new
+led_from v w new cap len ms wish_x wish_y x_is y_is led =
+    record {
+      stops = rw (x_is, y_is) led.stops;
+      reaches = λ some. rw (x_is, y_is) (led.reaches some);
+      along = λ some. record { along = rw (x_is, y_is) (led.along some).along; across = rw (x_is, y_is) (led.along some).across };
+    }
+
 -- what friction leaves has the course of a walk without a wish
-unwished_part : (v : Vec3) (wish_x wish_y : ℤ) (ms : ℕ) → HasRoomToGain v → part_along_wish (velocity_of true false v (pos 0) (pos 0) ms) wish_x wish_y ≡ part_along_wish (friction_of v ms) wish_x wish_y
+unwished_led : (v new : Vec3) (cap len ms : ℕ) (wish_x wish_y : ℤ) → HasRoomToGain v → IsLed cap len ms wish_x wish_y (friction_of v ms) new
+    → IsLed cap len ms wish_x wish_y (velocity_of true false v (pos 0) (pos 0) ms) new
 unfolding root_of
-unwished_part v wish_x wish_y ms room =
+unwished_led v new cap len ms wish_x wish_y room led =
     let slowed = slowed_has_room v (friction_of v ms) room (friction_shortens v ms) in
-    same_part (friction_of v ms) (velocity_of true false v (pos 0) (pos 0) ms) wish_x wish_y (cut_kept _ (omega (arith, slowed.x))) (cut_kept _ (omega (arith, slowed.y)))
+    led_from (friction_of v ms) (velocity_of true false v (pos 0) (pos 0) ms) new cap len ms wish_x wish_y (cut_kept _ (omega (arith, slowed.x))) (cut_kept _ (omega (arith, slowed.y))) led
 
 pub wishes_are_followed : WishesAreFollowed
 wishes_are_followed v wish_x wish_y ms room brief =
     let len = wish_length wish_x wish_y in
-    let new = part_along_wish (velocity_of true false v wish_x wish_y ms) wish_x wish_y in
     record {
-      walking = subst (λ (old : ℤ). IsLed (min len 81920) len ms old new) (sym (unwished_part v wish_x wish_y ms room))
+      walking = unwished_led v (velocity_of true false v wish_x wish_y ms) (min len 81920) len ms wish_x wish_y room
           (led_in_range (friction_of v ms) wish_x wish_y ms (min len 81920) true (velocity_of true false v wish_x wish_y ms).z (slowed_has_room v (friction_of v ms) room (friction_shortens v ms)) brief refl);
-      jumping = led_in_range (jumped v) wish_x wish_y ms (min len 7680) false (velocity_of true true v wish_x wish_y ms).z (record { x = room.x; y = room.y }) brief (in_the_air wish_x wish_y);
+      jumping = led_from (jumped v) v (velocity_of true true v wish_x wish_y ms) (min len 7680) len ms wish_x wish_y refl refl
+          (led_in_range (jumped v) wish_x wish_y ms (min len 7680) false (velocity_of true true v wish_x wish_y ms).z (record { x = room.x; y = room.y }) brief (in_the_air wish_x wish_y));
       falling = λ jump. led_in_range v wish_x wish_y ms (min len 7680) false (velocity_of false jump v wish_x wish_y ms).z room brief (in_the_air wish_x wish_y);
     }

@@ -1,6 +1,6 @@
 -- What holds of the rules of a player's velocity.
 use Rattle.std.specs.Prelude.{◌≡◌, ℕ, ◌+◌, ◌*◌, ◌/◌, ◌<◌, ◌≤◌, Bool, List, length, fold, All}
-use Rattle.std.specs.Prelude.{ℤ, pos, neg_ℤ, ◌+ℤ◌, ◌<ℤ◌, ◌≤ℤ◌}
+use Rattle.std.specs.Prelude.{ℤ, pos, neg_ℤ, ◌+ℤ◌, ◌-ℤ◌, ◌<ℤ◌, ◌≤ℤ◌, unsigned_abs}
 use Rattle.std.specs.Int.{int_min, int_max}
 use Rattle.arena_geo.specs.declared.vec3.Vec3.{Vec3}
 use Rattle.arena_geo.specs.Vectors.{IsNear}
@@ -9,7 +9,8 @@ use Rattle.speed_rules.specs.declared.constants.TheConstants.{MAX_AIR_SPEED, GRA
 use Rattle.speed_rules.specs.declared.constants.TheConstants.{MAX_VELOCITY, MAX_UNCLAMPED}
 use Rattle.speed_rules.specs.Measures.{speed_of, greatest_velocity}
 use Rattle.speed_rules.specs.Rules.{jumped, slowed, friction_of, accelerated, gravity_of, clamped, unclamped}
-use Rattle.speed_rules.specs.Wishes.{wish_length, dot_with_wish, part_along_wish, wish_cap, wish_gain}
+use Rattle.speed_rules.specs.Wishes.{wish_length, dot_with_wish, cross_with_wish, part_along_wish}
+use Rattle.speed_rules.specs.Wishes.{wish_cap, wish_gain}
 use Rattle.speed_rules.specs.Changes.{Shortens, KeepsZeros, AddsAtMost, AddsUpwards, IsClamped, IsStill}
 
 -- the numbers that the rules cite: Quake's, where a unit has 256 sub-units and a second 1,000 milliseconds; and the
@@ -104,6 +105,19 @@ pub record ActsBelowCap (v : Vec3) (wish_x wish_y : ℤ) (ms : ℕ) (on_ground :
 abbrev pub AccelerationActsBelowTheCap : Type 0
 AccelerationActsBelowTheCap =
     (v : Vec3) (wish_x wish_y : ℤ) (ms : ℕ) (on_ground : Bool) → ActsBelowCap v wish_x wish_y ms on_ground
+
+-- a velocity changes along the wish alone: never against it, and by less than 1 at a right angle to it
+pub record ChangesAlong (wish_x wish_y : ℤ) (old new : Vec3) : Type 0 where
+  pub along : dot_with_wish old wish_x wish_y ≤ℤ dot_with_wish new wish_x wish_y
+  pub across : unsigned_abs (cross_with_wish new wish_x wish_y -ℤ cross_with_wish old wish_x wish_y)
+      < wish_length wish_x wish_y
+
+-- acceleration acts along the wish, and the cuts turn a velocity by less than 1
+abbrev pub AccelerationActsAlongTheWish : Type 0
+AccelerationActsAlongTheWish =
+    (v : Vec3) (wish_x wish_y : ℤ) (ms : ℕ) (on_ground : Bool)
+    → 0 < wish_length wish_x wish_y
+    → ChangesAlong wish_x wish_y v (accelerated v wish_x wish_y ms on_ground)
 
 -- ---- gravity and jumps
 -- gravity takes 204,800 sub-units a second from z in a second, cut toward 0, and keeps x and y

@@ -1,5 +1,5 @@
 -- Lengths and shares in whole numbers.
-use Rattle.std.specs.Prelude.{ℕ, ◌+◌, ◌*◌, ℤ, pos, ◌+ℤ◌, ◌*ℤ◌, unsigned_abs, int_div}
+use Rattle.std.specs.Prelude.{ℕ, ◌+◌, ◌*◌, ℤ, pos, ◌+ℤ◌, ◌-ℤ◌, ◌*ℤ◌, unsigned_abs, int_div}
 use Rattle.arena_geo.specs.declared.vec3.Vec3.{Vec3}
 use Rattle.arena_geo.specs.Roots.{root_of}
 use Rattle.speed_rules.specs.declared.constants.TheConstants.{MAX_VELOCITY}
@@ -23,6 +23,10 @@ scaled part by whole = int_div (part *ℤ by) (pos whole)
 -- the product of a velocity over the ground with (x, y), axis by axis
 abbrev pub dot_of : Vec3 → ℤ → ℤ → ℤ
 dot_of v x y = v.x *ℤ x +ℤ v.y *ℤ y
+
+-- the product of a velocity over the ground across (x, y): its length times the part at a right angle to it
+abbrev pub cross_of : Vec3 → ℤ → ℤ → ℤ
+cross_of v x y = v.x *ℤ y -ℤ v.y *ℤ x
 
 -- the part of a velocity along (x, y), of which len is the length
 abbrev pub part_along : Vec3 → ℤ → ℤ → ℕ → ℤ

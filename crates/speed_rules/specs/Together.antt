@@ -7,7 +7,7 @@ use Rattle.arena_geo.specs.Vectors.{IsNear}
 use Rattle.arena_geo.specs.Roots.{IsRoot}
 use Rattle.speed_rules.specs.Rules.{velocity_of}
 use Rattle.speed_rules.specs.Wishes.{wish_length, part_along_wish}
-use Rattle.speed_rules.specs.Laws.{StopsAtCap, ReachesCap}
+use Rattle.speed_rules.specs.Laws.{StopsAtCap, ReachesCap, ChangesAlong}
 
 -- ---- up and down
 -- how much of z gravity takes in so many milliseconds
@@ -78,24 +78,27 @@ pub record HasRoomToGain (v : Vec3) : Type 0 where
 abbrev pub gain_in : ℕ → ℕ → ℕ
 gain_in len ms = 10 * min len 81920 * ms / 1000
 
--- a wish of this length leads the part along it from old to new: to the cap, or as near to it as the time allows
-pub record IsLed (cap len ms : ℕ) (old new : ℤ) : Type 0 where
-  pub stops : StopsAtCap cap (gain_in len ms) old new
-  pub reaches : 0 < len → ReachesCap cap (gain_in len ms) old new
+-- a wish of this length leads a velocity from old to new: its part along the wish to the cap, or as near to it as the
+-- time allows, and along the wish alone
+pub record IsLed (cap len ms : ℕ) (wish_x wish_y : ℤ) (old new : Vec3) : Type 0 where
+  pub stops : StopsAtCap cap (gain_in len ms) (part_along_wish old wish_x wish_y) (part_along_wish new wish_x wish_y)
+  pub reaches : 0 < len
+      → ReachesCap cap (gain_in len ms) (part_along_wish old wish_x wish_y) (part_along_wish new wish_x wish_y)
+  pub along : 0 < len → ChangesAlong wish_x wish_y old new
 
 -- a wish leads a player to its own length, which is 81,920 at most where the player walks, from what friction leaves,
 -- and 7,680 at most where it jumps or is in the air
 pub record FollowsWish (v : Vec3) (wish_x wish_y : ℤ) (ms : ℕ) : Type 0 where
-  pub walking : IsLed (min (wish_length wish_x wish_y) 81920) (wish_length wish_x wish_y) ms
-      (part_along_wish (velocity_of true false v (pos 0) (pos 0) ms) wish_x wish_y)
-      (part_along_wish (velocity_of true false v wish_x wish_y ms) wish_x wish_y)
-  pub jumping : IsLed (min (wish_length wish_x wish_y) 7680) (wish_length wish_x wish_y) ms
-      (part_along_wish v wish_x wish_y)
-      (part_along_wish (velocity_of true true v wish_x wish_y ms) wish_x wish_y)
+  pub walking : IsLed (min (wish_length wish_x wish_y) 81920) (wish_length wish_x wish_y) ms wish_x wish_y
+      (velocity_of true false v (pos 0) (pos 0) ms)
+      (velocity_of true false v wish_x wish_y ms)
+  pub jumping : IsLed (min (wish_length wish_x wish_y) 7680) (wish_length wish_x wish_y) ms wish_x wish_y
+      v
+      (velocity_of true true v wish_x wish_y ms)
   pub falling : (jump : Bool)
-      → IsLed (min (wish_length wish_x wish_y) 7680) (wish_length wish_x wish_y) ms
-      (part_along_wish v wish_x wish_y)
-      (part_along_wish (velocity_of false jump v wish_x wish_y ms) wish_x wish_y)
+      → IsLed (min (wish_length wish_x wish_y) 7680) (wish_length wish_x wish_y) ms wish_x wish_y
+      v
+      (velocity_of false jump v wish_x wish_y ms)
 
 -- so it is with each velocity that has room to gain
 abbrev pub WishesAreFollowed : Type 0

@@ -2,7 +2,7 @@
 use Rattle.std.specs.Prelude.{ℕ, min, Bool, ℤ, ◌*ℤ◌}
 use Rattle.arena_geo.specs.declared.vec3.Vec3.{Vec3}
 use Rattle.speed_rules.specs.declared.constants.TheConstants.{UNIT, MAX_SPEED}
-use Rattle.speed_rules.specs.Measures.{length_of, dot_of, part_along}
+use Rattle.speed_rules.specs.Measures.{length_of, dot_of, cross_of, part_along}
 use Rattle.speed_rules.specs.Rules.{cap_of, greatest_gain}
 
 -- the length of the wish, rounded down
@@ -12,6 +12,10 @@ wish_length wish_x wish_y = length_of (wish_x *ℤ UNIT) (wish_y *ℤ UNIT)
 -- the product of the velocity with the wish, axis by axis
 abbrev pub dot_with_wish : Vec3 → ℤ → ℤ → ℤ
 dot_with_wish v wish_x wish_y = dot_of v (wish_x *ℤ UNIT) (wish_y *ℤ UNIT)
+
+-- the product of the velocity across the wish: the wish's length times the part at a right angle to it
+abbrev pub cross_with_wish : Vec3 → ℤ → ℤ → ℤ
+cross_with_wish v wish_x wish_y = cross_of v (wish_x *ℤ UNIT) (wish_y *ℤ UNIT)
 
 -- the part of the velocity along the wish
 abbrev pub part_along_wish : Vec3 → ℤ → ℤ → ℤ

@@ -1,6 +1,7 @@
 ghost use Rattle.speed_rules.specs.Laws.{AreQuakesNumbers, FrictionShortens, FrictionKeepsZeros, FrictionSlows};
 ghost use Rattle.speed_rules.specs.Laws.{FrictionStops, AccelerationIsBounded, AccelerationStopsAtTheCap};
 ghost use Rattle.speed_rules.specs.Laws.{AccelerationReachesTheCap, AccelerationActsBelowTheCap};
+ghost use Rattle.speed_rules.specs.Laws.{AccelerationActsAlongTheWish};
 ghost use Rattle.speed_rules.specs.Laws.{GravityPullsDown, JumpsPushUp};
 ghost use Rattle.speed_rules.specs.Laws.{ClampKeepsWhatIsInRange, ClampIsIdempotent, WhatEntersTheClampIsNear};
 ghost use Rattle.speed_rules.specs.Together.{HeightsAreKnown, FliersKeepTheirCourse, WalkersAreSlowed};
@@ -56,6 +57,12 @@ pub fn acceleration_acts_below_the_cap()
     ensures { AccelerationActsBelowTheCap }
 {}
 
+/// Acceleration acts along the wish: a velocity never loses of its product with the wish, and changes by less than 1 at
+/// a right angle to it.
+pub fn acceleration_acts_along_the_wish()
+    ensures { AccelerationActsAlongTheWish }
+{}
+
 /// Gravity takes 204,800 * time / 1000, cut toward 0, from z, and keeps x and y.
 pub fn gravity_pulls_down()
     ensures { GravityPullsDown }
@@ -100,7 +107,7 @@ pub fn walkers_are_slowed()
 
 /// A wish leads a player along it to the wish's length, at most 81,920 where the player walks and 7,680 where it jumps or
 /// is in the air, or as near to that as the time allows. The part along the wish comes at most 1 past it, and at most 3
-/// short of it.
+/// short of it, and the velocity at a right angle to it changes by less than 1.
 pub fn wishes_are_followed()
     ensures { WishesAreFollowed }
 {}

@@ -209,6 +209,76 @@ fn a_snapshot_has_the_player_as_it_is(rt: HostRuntime) -> Result<(), Fail> {
     expect(&rt, &world, 1, MOVED)
 }
 
+/// What a player with ammunition, gems and a score is shown of itself in frame 16,909,060, field by field: version and
+/// frame, slot, origin, velocity, flags with ammunition and gems, score, the number of its last move, and no entity.
+const LADEN: &[u8] = b"\x01\x04\x03\x02\x01\x05\
+\xff\xff\xff\xff\0\x01\0\0\0\x18\0\0\
+\0\x30\xf8\xff\0\x40\x01\0\xfe\xff\xff\xff\
+\x03\x63\x08\
+\x45\x23\x01\0\
+\x0d\x0c\x0b\x0a\
+\0\0";
+
+/// A player in slot 5 with damage, ammunition, gems and a score.
+fn laden_player() -> Rec
+    ensures { IsRecord result }
+{
+    Rec {
+        id: 5,
+        kind: Kind::Player,
+        origin: at(-1, 256, 6_144),
+        mins: PLAYER_MINS,
+        maxs: PLAYER_MAXS,
+        vel: at(-512_000, 81_920, -2),
+        flags: 3,
+        ammo: 99,
+        carry: 8,
+        score: 74_565,
+        seq: 168_496_141,
+        state: 75,
+    }
+}
+
+/// The same player as it is shown to itself, without its damage.
+fn laden_player_without_damage() -> Rec {
+    Rec {
+        id: 5,
+        kind: Kind::Player,
+        origin: at(-1, 256, 6_144),
+        mins: PLAYER_MINS,
+        maxs: PLAYER_MAXS,
+        vel: at(-512_000, 81_920, -2),
+        flags: 3,
+        ammo: 99,
+        carry: 8,
+        score: 74_565,
+        seq: 168_496_141,
+        state: 0,
+    }
+}
+
+#[test]
+fn a_player_is_shown_all_that_it_has(rt: HostRuntime) -> Result<(), Fail> {
+    let mut world = empty_world(&rt)?;
+    put(&mut world, laden_player());
+    let mut reply = ReplyBuf::new(rt.alloc())?;
+    assert!(rt; world.get(5).is_some());
+    write_snapshot(&world, 16_909_060, 5, &mut reply);
+    assert_eq!(rt; reply.as_slice(), LADEN);
+    Ok(())
+}
+
+#[test]
+fn a_player_reads_all_that_it_has(rt: HostRuntime) {
+    let read = read_snapshot(LADEN);
+    assert!(rt; read.is_ok());
+    if let Ok(snapshot) = read {
+        assert_eq!(rt; snapshot.frame, 16_909_060);
+        assert_eq!(rt; snapshot.own, laden_player_without_damage());
+        assert_eq!(rt; snapshot.seen.as_slice().len(), 0);
+    }
+}
+
 #[test]
 fn a_snapshot_has_what_its_player_sees(rt: HostRuntime) -> Result<(), Fail> {
     let mut world = empty_world(&rt)?;

@@ -350,6 +350,46 @@ fn a_map_has_its_settings(rt: HostRuntime) -> Result<(), Fail> {
     Ok(())
 }
 
+/// Lines of an item, of blocks and of a goal around that of shots, which break no rule.
+const AROUND_SHOTS: &[(&[u8], u8)] = &[
+    (b"item 20000 -4096 0 ammo 100", 0),
+    (b"block 5120 -12800 0 12800 12800 4608", 0),
+    (b"shots", 0),
+    (b"block -131072 0 0 131072 131072 65536", 0),
+    (b"goal -16384 -16384 0 16384 16384 25600", 0),
+    (b"spawn 0 0 6144", 0),
+];
+
+/// The records of [`AROUND_SHOTS`].
+fn things_around_shots() -> [Rec; 2] {
+    [
+        thing(64, Kind::Ammo, at(20_000, -4_096, 0), ITEM_MINS, ITEM_MAXS),
+        thing(
+            65,
+            Kind::Goal,
+            at(-16_384, -16_384, 0),
+            Vec3::ZERO,
+            at(32_768, 32_768, 25_600),
+        ),
+    ]
+}
+
+#[test]
+fn shots_change_nothing_that_other_lines_gave(rt: HostRuntime) -> Result<(), Fail> {
+    let mut map = begun(rt.alloc(), ARENA)?;
+    expect(&rt, &mut map, AROUND_SHOTS)?;
+    assert_eq!(rt; (map.depth(), map.shots()), (4, true));
+    assert_eq!(rt; map.entities(), things_around_shots().as_slice());
+    assert_eq!(rt; map.delay_of(64), Some(100));
+    assert_eq!(rt; map.spawns().len(), 1);
+    assert_eq!(rt; map.solids().len(), 8);
+    let low = at(5_120, -12_800, 0);
+    expect_solid(&rt, &map, 6, low, at(12_800, 12_800, 4_608));
+    let high = at(131_072, 131_072, 65_536);
+    expect_solid(&rt, &map, 7, at(-131_072, 0, 0), high);
+    Ok(())
+}
+
 /// Expects that the line that a text says is printed as that text.
 fn expect_printed(rt: &impl Abort, out: &mut LineBuf, text: &[u8]) -> Result<(), Fail> {
     let line = read(text).map_err(|_| "a line")?;
