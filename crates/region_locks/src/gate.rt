@@ -1,14 +1,16 @@
 ghost use Rattle.std.specs.Prelude.{◌≡◌, ◌∷◌, [], false, Some, None, is_some, option_copied};
 ghost use Rattle.entity_recs.specs.Commands.{command_of};
 ghost use Rattle.ruled_words.specs.Hands.{keeping};
+ghost use Rattle.ruled_words.specs.Passes.{IsOwn};
 ghost use Rattle.region_locks.specs.Pursuits.{command_pursued};
 ghost use Rattle.region_locks.specs.Points.{has_entry};
 ghost use Rattle.region_locks.specs.Moments.{IsAtPoint, HasLogged};
 
 use crate::gate_point::GatePoint;
 use crate::pass::Pass;
-use entity_recs::{Cmd, Effect, Entry};
-use ruled_words::Hand;
+use crate::table::NodeTable;
+use entity_recs::{Action, Cmd, Effect, Entry};
+use ruled_words::{Hand, SharedWords};
 use std::marker::Model;
 
 /// A moment of a move, which is lent to the gate. Only the calls that run moves make one: it has no public constructor
@@ -34,8 +36,14 @@ impl Model for Moment {
 }
 
 impl Moment {
-    /// A moment before the commit of the command that the pass has in hand.
-    pub(crate) fn before<A>(pass: &Pass<A>, cmd: Cmd, point: GatePoint) -> Moment
+    /// A moment before the commit of the command that the pass of this table has in hand.
+    pub(crate) fn before<A: Action>(
+        table: &NodeTable<A>,
+        pass: &Pass<A>,
+        cmd: Cmd,
+        point: GatePoint,
+    ) -> Moment
+        requires own { IsOwn A.meaning table.now pass.now }
         requires at { IsAtPoint pass.now point }
         requires before { has_entry point ≡ false }
         requires in_hand { command_pursued pass.now ≡ command_of cmd ∷ [] }
@@ -47,6 +55,8 @@ impl Moment {
           entry = None;
         } }
     {
+        // The condition alone reads the table.
+        let _ = table;
         Moment {
             worker: pass.number(),
             point,
@@ -98,8 +108,15 @@ impl Moment {
         }
     }
 
-    /// The moment at which the effect of a hand's command is known.
-    pub(crate) fn at_effect(hand: &Hand, cmd: &Cmd, effect: &Effect) -> Moment
+    /// The moment at which the effect of a hand's command is known: it is what the action gives on all that was loaded of
+    /// these words.
+    pub(crate) fn at_effect<A: Action>(
+        words: &SharedWords<A>,
+        hand: &Hand,
+        cmd: &Cmd,
+        effect: &Effect,
+    ) -> Moment
+        requires own { IsOwn A.meaning words.now (keeping hand.now effect.now) }
         requires at { IsAtPoint (keeping hand.now effect.now) GatePoint.Computed }
         requires in_hand { command_pursued hand.now ≡ command_of cmd.now ∷ [] }
         ensures { result ≡ record {
@@ -110,8 +127,8 @@ impl Moment {
           entry = None;
         } }
     {
-        // The condition alone reads the effect.
-        let _ = effect;
+        // The conditions alone read the words and the effect.
+        let _ = (words, effect);
         Moment {
             worker: hand.number(),
             point: GatePoint::Computed,
