@@ -128,7 +128,8 @@ impl Moment {
         } }
     {
         // The conditions alone read the words and the effect.
-        let _ = (words, effect);
+        let _ = words;
+        let _ = effect;
         Moment {
             worker: hand.number(),
             point: GatePoint::Computed,
