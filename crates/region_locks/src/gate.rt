@@ -8,7 +8,6 @@ ghost use Rattle.region_locks.specs.Moments.{IsAtPoint, HasLogged};
 
 use crate::gate_point::GatePoint;
 use crate::pass::Pass;
-use crate::table::NodeTable;
 use entity_recs::{Action, Cmd, Effect, Entry};
 use ruled_words::{Hand, SharedWords};
 use std::marker::Model;
@@ -36,14 +35,8 @@ impl Model for Moment {
 }
 
 impl Moment {
-    /// A moment before the commit of the command that the pass of this table has in hand.
-    pub(crate) fn before<A: Action>(
-        table: &NodeTable<A>,
-        pass: &Pass<A>,
-        cmd: Cmd,
-        point: GatePoint,
-    ) -> Moment
-        requires own { IsOwn A.meaning table.now pass.now }
+    /// A moment before the commit of the command that the pass has in hand.
+    pub(crate) fn before<A>(pass: &Pass<A>, cmd: Cmd, point: GatePoint) -> Moment
         requires at { IsAtPoint pass.now point }
         requires before { has_entry point ≡ false }
         requires in_hand { command_pursued pass.now ≡ command_of cmd ∷ [] }
@@ -55,8 +48,6 @@ impl Moment {
           entry = None;
         } }
     {
-        // The condition alone reads the table.
-        let _ = table;
         Moment {
             worker: pass.number(),
             point,

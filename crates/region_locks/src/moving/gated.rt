@@ -1,6 +1,6 @@
 ghost use Rattle.std.specs.Prelude.{◌≡◌, ◌<◌, ◌∷◌, [], false, length, Some, IfSome, OnOk, IfErr};
 ghost use Rattle.entity_recs.specs.Commands.{Command, command_of};
-ghost use Rattle.ruled_words.specs.Passes.{PassView, fixed_in, IsOwn};
+ghost use Rattle.ruled_words.specs.Passes.{PassView, fixed_in};
 ghost use Rattle.region_locks.specs.Turns.{turn_of};
 ghost use Rattle.region_locks.specs.Pursuits.{IsGoingOn, WasRefused, calls_left, command_pursued};
 ghost use Rattle.region_locks.specs.Moves.{IsRunning, NoTakeWasRefused};
@@ -18,12 +18,11 @@ use entity_recs::{Action, Cmd, Entry};
 impl<'a, A: Action> NodeTable<'a, A> {
     /// Calls the gate before the commit.
     fn show<G: Gate>(&self, pass: &Pass<A>, cmd: Cmd, point: GatePoint, gate: &G)
-        requires own { IsOwn A.meaning self.now pass.now }
         requires at { IsAtPoint pass.now point }
         requires before { has_entry point ≡ false }
         requires in_hand { command_pursued pass.now ≡ command_of cmd ∷ [] }
     {
-        gate.at(&Moment::before(self, pass, cmd, point));
+        gate.at(&Moment::before(pass, cmd, point));
     }
 
     /// Calls the gate after the commit, and gives the entry back.
@@ -46,7 +45,6 @@ impl<'a, A: Action> NodeTable<'a, A> {
 
     /// Calls the gate where the pass holds all leaves and nothing is read yet, or where all is written.
     fn show_held<G: Gate>(&self, pass: &Pass<A>, cmd: Cmd, entry: &mut Option<Entry>, gate: &G)
-        requires own { IsOwn A.meaning self.now pass.now }
         requires pursues { pass.now.quits ≡ false }
         requires runs { RunsCommand pass.now (command_of cmd) entry.old }
         ensures { entry.new ≡ entry.old }
