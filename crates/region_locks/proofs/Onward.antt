@@ -562,7 +562,7 @@ module _ (F : Fixed) (passes : ℕ) (table : TableId) (p new : PassView) (going 
 
   -- the take is refused
   pub refused_step : (node found number leaves : ℕ) → node_taken_next (next_of_pass F p) ≡ Some node → new ≡ pass_after F (the_next (next_of_pass F p)) found p → IsHolderIn F found node number leaves
-      → IsOtherHolder F passes p.number node number leaves → IsReached F p.view node → is_taking new.view.point ≡ true → WasRefused F passes table p new node number leaves
+      → IsOtherHolder F passes p.number node found number leaves → IsReached F p.view node → is_taking new.view.point ≡ true → WasRefused F passes table p new node number leaves
   refused_step node found number leaves taken is holder other reached taking =
       let view : new.view ≡ view_after_refusal node found p.view = ap (λ (q : PassView). q.view) is ∙ refused_view F p.view (next_of_pass F p) node found taken holder.is_held in
       let pursues : new.quits ≡ false = ap (λ (q : PassView). q.quits) is in
@@ -587,7 +587,7 @@ module _ (F : Fixed) (passes : ℕ) (table : TableId) (p new : PassView) (going 
         is_node = refl;
         cause = record {
           held = holder;
-          other = subst (λ (n : ℕ). IsOtherHolder F passes n node number leaves) mine other;
+          other = subst (λ (n : ℕ). IsOtherHolder F passes n node found number leaves) mine other;
           wanted = reached.wanted;
           is_wanted = reached.is_wanted;
           is_visited = reached.is_visited;

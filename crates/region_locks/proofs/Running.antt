@@ -1,15 +1,16 @@
 -- A pass that runs a command, call after call, and how it ends.
 use Rattle.std.proofs.Common.{◌≡◌, ℕ, ◌+◌, ◌-◌, ◌^◌, ◌/◌, ◌%◌, ◌<◌, ◌≤◌, Bool, true, false, if◌then◌else◌, List, [], ◌∷◌, ◌++◌, refl, sym, ap, ◌∙◌, subst, Option, Some, None, is_some, arith}
-use Rattle.std.specs.Prelude.{min}
+use Rattle.std.specs.Prelude.{min, ◌&&◌}
 use Rattle.std.proofs.lemmas.Bool.{true≢false, le-leb, cond-true, cond-false, or_parts}
 use Rattle.atomic_table.specs.Seated.{TableId}
 use Rattle.entity_recs.specs.declared.effect.Entry.{Entry}
 use Rattle.entity_recs.specs.Commands.{Command}
 use Rattle.areanode.specs.Words.{has_bit}
-use Rattle.core_steps.specs.Views.{Fixed, Refused, Point, Idle, Resolving, stage_of, is_busy, has, is_leaf, inner_nodes, inner_visited, region_in, inner_held, leaves_held, stores_owed}
+use Rattle.core_steps.specs.Views.{Fixed, Refused, Point, Idle, Resolving, stage_of, is_busy, has, is_leaf, inner_nodes, inner_visited, region_in, inner_held, leaves_held, stores_owed, holds, held_word}
 use Rattle.core_steps.specs.declared.sizes.TheConstants.{NODE_HOLDERS, TABLE_LEAVES}
 use Rattle.core_steps.specs.Calls.{is_pursued, pursued_of}
 use Rattle.core_steps.proofs.Points.{idle_point, none_in_hand}
+use Rattle.core_seats.specs.Ready.{is_resolving}
 use Rattle.ruled_words.specs.Sights.{HeldWord}
 use Rattle.ruled_words.specs.Passes.{PassView, IsPassOf}
 use Rattle.ruled_words.proofs.VisitedNodes.{inner_there}
@@ -37,7 +38,7 @@ same_one xs c d x y = cc
 pub at_computed : (F : Fixed) (passes : ℕ) (table : TableId) (old new : PassView) (went : Went) → went ≡ Resolved → HasGoneOn F passes table old new went → IsAtPoint new points.Computed
 at_computed F passes table old new went is gone =
     let at : new.view.point ≡ Resolving = gone.reading (ap is_resolved is) in record {
-      come = gone.known (ap is_resolved is);
+      come = ap (λ (q : Point). is_resolving q && is_some new.effect) at ∙ gone.known (ap is_resolved is);
       alone = record {
         busy = ap (λ (q : Point). is_busy (stage_of q)) at;
         leaves = ap (λ (q : Point). leaves_held q new.view.wanted) at;
@@ -237,10 +238,12 @@ is_node_busy F passes own c r node first number leaves at below same by =
       other = record {
         other = by.other.other;
         below = by.other.below;
-        cmd = by.other.cmd;
-        loaded = by.other.loaded;
+        view = by.other.view;
         given = by.other.given;
         serves = by.other.serves;
+        held = subst (λ (n : ℕ). holds F by.other.view.point by.other.view.wanted n ≡ true) same by.other.held;
+        wanted = by.other.wanted;
+        is_word = subst (λ (n : ℕ). r.word ≡ held_word F number (stage_of by.other.view.point) by.other.view.wanted n) same by.other.is_word;
         are_leaves = λ leaf. absurd (true≢false (sym leaf ∙ inner));
         has_leaf = λ leaf. absurd (true≢false (sym leaf ∙ inner));
       };

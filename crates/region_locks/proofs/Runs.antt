@@ -1,5 +1,6 @@
 -- The parts of a move as straight code, one after another.
-use Rattle.std.proofs.Common.{◌≡◌, ℕ, suc, ◌+◌, ◌^◌, ◌<◌, ◌≤◌, List, [], ◌∷◌, ◌++◌, refl, sym, ap, ◌∙◌, subst, Some}
+use Rattle.std.proofs.Common.{◌≡◌, ℕ, suc, ◌+◌, ◌^◌, ◌<◌, ◌≤◌, true, List, [], ◌∷◌, ◌++◌, refl, sym, ap, ◌∙◌, subst, Some}
+use Rattle.std.specs.Prelude.{◌&&◌}
 use Rattle.arena_geo.specs.Bounds.{Bounds}
 use Rattle.areanode.specs.Trees.{leaves_of}
 use Rattle.entity_recs.specs.declared.effect.Effect.{Effect}
@@ -8,6 +9,7 @@ use Rattle.entity_recs.specs.Commands.{Command}
 use Rattle.entity_recs.specs.Histories.{entry_of}
 use Rattle.core_steps.specs.Steps.{item_at, visiting}
 use Rattle.core_steps.specs.Views.{Fixed, View, Point, stage_of, is_committed, without_command, Checking, Resolving, Releasing, plan_of, region_in, leaf_word}
+use Rattle.core_seats.specs.Ready.{is_resolving}
 use Rattle.core_seats.specs.declared.refusals.Refusals.{Refusals}
 use Rattle.core_seats.specs.Refusals.{AreRefusals}
 use Rattle.ruled_words.specs.Sights.{Tally}
@@ -98,7 +100,7 @@ module _ (F : Fixed) (old at new : PassView) (first : at ≡ in_view_with old (n
 
   pub known_point : (e : Effect) → IsAtPoint (keeping new e) Computed
   known_point e = record {
-    come = refl;
+    come = ap (λ (p : PassView). is_resolving p.view.point && true) both;
     alone = subst (λ (p : PassView). HoldsLeavesAlone (keeping p e)) (sym both) (record { busy = refl; leaves = refl; inner = λ G. refl; stores = refl });
   }
 

@@ -1,9 +1,10 @@
 -- What a pass holds, and which move it runs, at the moments at which the move calls the gate.
-use Rattle.std.specs.Prelude.{◌≡◌, Bool, true, is_some, List, [], ◌∷◌, ◌++◌, Option, Some, None}
+use Rattle.std.specs.Prelude.{◌≡◌, Bool, true, ◌&&◌, is_some, List, [], ◌∷◌, ◌++◌, Option, Some, None}
 use Rattle.entity_recs.specs.declared.effect.Entry.{Entry}
 use Rattle.entity_recs.specs.Commands.{Command}
 use Rattle.entity_recs.specs.Histories.{Item}
 use Rattle.core_steps.specs.Views.{stage_of, is_committed}
+use Rattle.core_seats.specs.Ready.{is_resolving}
 use Rattle.ruled_words.specs.Passes.{PassView}
 use Rattle.region_locks.specs.Pursuits.{command_pursued, item_of, is_checking, HoldsLeavesAlone}
 use Rattle.region_locks.specs.declared.gate_point.GatePoint.{GatePoint}
@@ -12,7 +13,7 @@ use Rattle.region_locks.specs.declared.gate_point.GatePoint.TheVariants.{Leaves,
 -- the move is as far as the point says
 abbrev pub has_come : PassView → GatePoint → Bool
 has_come p Leaves = is_checking p.view.point
-has_come p Computed = is_some p.effect
+has_come p Computed = is_resolving p.view.point && is_some p.effect
 has_come p Committed = is_committed (stage_of p.view.point)
 
 -- the pass is at the point: it holds all leaves of its command and no inner node, and owes no store

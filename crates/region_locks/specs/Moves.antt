@@ -46,7 +46,7 @@ pub record IsLeafHeld (F : Fixed) (passes own : ℕ) (c : Command) (r : Refused)
   pub leaves_wanted : r.wanted ≡ leaf_nodes F (region_in F c r.own)
   pub wanted : has r.wanted r.node ≡ true
   pub named : IsHolderIn F r.word r.node holder leaves
-  pub other : IsOtherHolder F passes own r.node holder leaves
+  pub other : IsOtherHolder F passes own r.node r.word holder leaves
   pub has_leaf : has_bit leaves leaf ≡ true
 
 -- the refused take was of an inner node that the command's leaves visit, by the own record as loaded, and its word
@@ -57,7 +57,7 @@ pub record IsNodeBusy (F : Fixed) (passes own : ℕ) (c : Command) (r : Refused)
   pub leaves_wanted : r.wanted ≡ leaf_nodes F (region_in F c r.own)
   pub visited : has (inner_visited F (region_in F c r.own)) node ≡ true
   pub named : IsHolderIn F r.word node holder 0
-  pub other : IsOtherHolder F passes own node holder 0
+  pub other : IsOtherHolder F passes own node r.word holder 0
 
 -- the refused take is the cause of the answer
 abbrev pub IsCause : Fixed → ℕ → ℕ → Command → Refused → Again → Type 0

@@ -77,7 +77,7 @@ pub record HasCommitted (old new : PassView) (e : Entry) : Type 0 where
 -- inner node that they visit
 pub record IsRefusedBy (F : Fixed) (passes own : ℕ) (c : Command) (r : Refused) (number leaves : ℕ) : Type 0 where
   pub held : IsHolderIn F r.word r.node number leaves
-  pub other : IsOtherHolder F passes own r.node number leaves
+  pub other : IsOtherHolder F passes own r.node r.word number leaves
   pub wanted : r.wanted ≡ leaf_nodes F (region_in F c r.own)
   pub is_wanted : is_leaf F r.node ≡ true → has r.wanted r.node ≡ true
   pub is_visited : is_leaf F r.node ≡ false → has (inner_visited F (region_in F c r.own)) r.node ≡ true

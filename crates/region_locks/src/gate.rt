@@ -1,14 +1,15 @@
 ghost use Rattle.std.specs.Prelude.{◌≡◌, ◌∷◌, [], false, Some, None, is_some, option_copied};
 ghost use Rattle.entity_recs.specs.Commands.{command_of};
 ghost use Rattle.ruled_words.specs.Hands.{keeping};
+ghost use Rattle.ruled_words.specs.Passes.{IsOwn};
 ghost use Rattle.region_locks.specs.Pursuits.{command_pursued};
 ghost use Rattle.region_locks.specs.Points.{has_entry};
 ghost use Rattle.region_locks.specs.Moments.{IsAtPoint, HasLogged};
 
 use crate::gate_point::GatePoint;
 use crate::pass::Pass;
-use entity_recs::{Cmd, Effect, Entry};
-use ruled_words::Hand;
+use entity_recs::{Action, Cmd, Effect, Entry};
+use ruled_words::{Hand, SharedWords};
 use std::marker::Model;
 
 // Made of the pass and the command, and asks that the pass is at the point, so no gate can be called of a move that
@@ -100,8 +101,15 @@ impl Moment {
         }
     }
 
-    /// The moment at which the effect of a hand's command is known.
-    pub(crate) fn at_effect(hand: &Hand, cmd: &Cmd, effect: &Effect) -> Moment
+    /// The moment at which the effect of a hand's command is known: it is what the action gives on all that was loaded of
+    /// these words.
+    pub(crate) fn at_effect<A: Action>(
+        words: &SharedWords<A>,
+        hand: &Hand,
+        cmd: &Cmd,
+        effect: &Effect,
+    ) -> Moment
+        requires own { IsOwn A.meaning words.now (keeping hand.now effect.now) }
         requires at { IsAtPoint (keeping hand.now effect.now) GatePoint.Computed }
         requires in_hand { command_pursued hand.now ≡ command_of cmd.now ∷ [] }
         ensures { result ≡ record {
@@ -112,7 +120,8 @@ impl Moment {
           entry = None;
         } }
     {
-        // The condition alone reads the effect.
+        // The conditions alone read the words and the effect.
+        let _ = words;
         let _ = effect;
         Moment {
             worker: hand.number(),

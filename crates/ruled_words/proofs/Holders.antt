@@ -15,7 +15,7 @@ use Rattle.areanode.specs.Words.{has_bit}
 use Rattle.areanode.specs.Depths.{sizes_of_depth}
 use Rattle.areanode.specs.Trees.{IsTreeDepth, leaves_of}
 use Rattle.core_steps.specs.Cells.{Words}
-use Rattle.core_steps.specs.Views.{Fixed, Point, Idle, Owning, Taking, Checking, Entering, Entered, Loading, Leaving, Sensing, Resolving, Claiming, Storing, Releasing, Returning, Yielding, View, stage_of, is_busy, is_whole, is_writing, has, is_leaf, inner_nodes, leaf_nodes, leaf_word, region_in, holds, inner_held, leaves_held, record_read, write_nodes, effect_loaded}
+use Rattle.core_steps.specs.Views.{Fixed, Point, Idle, Owning, Taking, Checking, Entering, Entered, Loading, Leaving, Sensing, Resolving, Claiming, Storing, Releasing, Returning, Yielding, View, stage_of, is_busy, is_whole, is_writing, has, is_leaf, inner_nodes, leaf_nodes, leaf_word, region_in, holds, held_word, inner_held, leaves_held, record_read, write_nodes, effect_loaded}
 use Rattle.core_steps.specs.Steps.{first_yield, next_give, next_node_at}
 use Rattle.core_steps.specs.Stands.{IsAt}
 use Rattle.core_steps.specs.Machine.{Next, Begin, LoadOwn, LoadAgain, TakeNode, ClaimNode, ReadList, ReadPlayer, ReadState, CommitMove, StoreWord, GiveNode, YieldNode, YieldCount, giving, quitting, beginning, committing, next_at, index_of, word_of_next, SomeIsLeft}
@@ -255,14 +255,16 @@ module _ (F : Fixed) (passes own node word number leaves : ℕ) (depth : IsTreeD
       by.is_word ∙ ap (λ (x : ℕ). suc (by.holder + NODE_HOLDERS * x)) (cond-true (is_leaf F node) (leaf_word F by.view.wanted) (if is_writing (stage_of by.view.point) then 1 else 0) leaf ∙ mark) in
       is.are_leaves ∙ cond-true (is_leaf F node) (word / NODE_HOLDERS % 2 ^ TABLE_LEAVES) 0 leaf ∙ mark_in word by.holder (leaves_of F.tree region) full by.small low
 
-  pub other_holder : IsOtherHolder F passes own node number leaves
+  pub other_holder : IsOtherHolder F passes own node word number leaves
   other_holder = record {
     other = λ same. by.other (sym same_number ∙ same);
     below = subst (λ (n : ℕ). n < passes) (sym same_number) by.below;
-    cmd = by.view.cmd;
-    loaded = by.view.own;
+    view = by.view;
     given = by.given;
     serves = by.serves ∙ sym same_number;
+    held = by.held;
+    wanted = by.wanted;
+    is_word = by.is_word ∙ ap (λ (n : ℕ). held_word F n (stage_of by.view.point) by.view.wanted node) (sym same_number);
     are_leaves = same_leaves;
     has_leaf = λ leaf. subst (λ (w : ℕ). has_bit w (node - inner_nodes F) ≡ true) (sym (same_leaves leaf)) (by.has_leaf leaf);
   }

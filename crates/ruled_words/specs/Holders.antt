@@ -1,7 +1,6 @@
 -- Who holds a node that a seat was to take.
-use Rattle.std.specs.Prelude.{◌≡◌, ◌≢◌, ℕ, ◌-◌, ◌%◌, ◌<◌, true, false, List, Some}
+use Rattle.std.specs.Prelude.{◌≡◌, ◌≢◌, ℕ, ◌-◌, ◌%◌, ◌<◌, true, false, Some}
 use Rattle.core_steps.specs.declared.sizes.TheConstants.{MOST_SEATS}
-use Rattle.entity_recs.specs.Commands.{Command}
 use Rattle.areanode.specs.Words.{has_bit}
 use Rattle.areanode.specs.Trees.{leaves_of}
 use Rattle.core_steps.specs.Views.{Fixed, View, stage_of, holds, held_word, region_in, inner_nodes, is_leaf, leaf_nodes}
@@ -32,16 +31,19 @@ abbrev pub IsFoundHeld : Fixed → ℕ → ℕ → Next → ℕ → Type 0
 IsFoundHeld F passes number next found = (node : ℕ) → node_taken next ≡ Some node → found ≢ 0
     → IsHeldByOther F passes number node found
 
--- another pass than that with the number `own` has this number and holds the node: its command is of a slot that it
--- serves, and for a leaf the leaves are those of the command, by what was loaded of its own record, with this leaf
-pub record IsOtherHolder (F : Fixed) (passes own node number leaves : ℕ) : Type 0 where
+-- another pass than that with the number `own` has this number, and a view in which it holds the node, and the word is
+-- that of the node while it does: its command is of a slot that it serves, and for a leaf the leaves are those of the
+-- command, by what was loaded of its own record, with this leaf
+pub record IsOtherHolder (F : Fixed) (passes own node word number leaves : ℕ) : Type 0 where
   pub other : number ≢ own
   pub below : number < passes
-  pub cmd : Command
-  pub loaded : List ℕ
-  pub given : IsGiven F cmd
-  pub serves : cmd.slot % passes ≡ number
-  pub are_leaves : is_leaf F node ≡ true → leaves ≡ leaves_of F.tree (region_in F cmd loaded)
+  pub view : View
+  pub given : IsGiven F view.cmd
+  pub serves : view.cmd.slot % passes ≡ number
+  pub held : holds F view.point view.wanted node ≡ true
+  pub wanted : view.wanted ≡ leaf_nodes F (region_in F view.cmd view.own)
+  pub is_word : word ≡ held_word F number (stage_of view.point) view.wanted node
+  pub are_leaves : is_leaf F node ≡ true → leaves ≡ leaves_of F.tree (region_in F view.cmd view.own)
   pub has_leaf : is_leaf F node ≡ true → has_bit leaves (node - inner_nodes F) ≡ true
 
 -- the node that this seat takes next is one of the leaves that it wants, or an inner node that they visit

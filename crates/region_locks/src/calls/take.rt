@@ -30,7 +30,8 @@ impl<'a, A: Action> NodeTable<'a, A> {
         ensures err { IfErr result (λ h. (found : ℕ)
             × (pass.new ≡ after_in A.meaning self.now found pass.old)
             × IsHolderIn (fixed_in A.meaning self.now) found node h.number h.leaves
-            × IsOtherHolder (fixed_in A.meaning self.now) (length self.now.rooms) pass.old.number node h.number h.leaves
+            × IsOtherHolder (fixed_in A.meaning self.now) (length self.now.rooms) pass.old.number node found
+            h.number h.leaves
             × IsReached (fixed_in A.meaning self.now) pass.old.view node) }
         ensures may_quit { IfErr result (λ h. is_taking pass.new.view.point ≡ true) }
     {

@@ -107,7 +107,7 @@ fn read_region<A: Action, R: Wait, G: Gate>(
         &mut by_slot,
     );
     let effect = words.read_effect(hand, near, cmd, &held.region, again, seen, &by_slot);
-    gate.at(&Moment::at_effect(hand, cmd, &effect));
+    gate.at(&Moment::at_effect(words, hand, cmd, &effect));
     effect
 }
 

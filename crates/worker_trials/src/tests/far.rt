@@ -2,18 +2,18 @@ use arena_engine::{Report, serve};
 use edge_io::{MemSink, MemSource};
 use entity_recs::Entry;
 use shared_moves::{Gate, GatePoint, Moment};
-use std::alloc::{AllocError, AllocGlobal};
+use std::alloc::{AllocError, AllocGlobal, Global};
 use std::process::Abort;
 use std::sync::Wait;
 use std::sync::atomic::{AtomicBool, AtomicI32, AtomicU64, Ordering};
 use std::test::Fail;
 use std::thread::{Threads, yield_now};
 
-/// Two players in opposite corners, each of which moves once in the frame of its join.
-const FAR_PLAYERS: &str =
-    "arena -131072 -131072 0 131072 131072 65536\nspawn 98304 98304 6144\nspawn -98304 -98304 6144\nframe\nfrom 7 0101\nfrom 8 0101\nfrom 7 010201000000320000000000\nfrom 8 010201000000320000000000\nend\n";
+/// An arena with 16 spawns, each in the middle of a leaf of its own.
+const FAR_SPAWNS: &str =
+    "arena -131072 -131072 0 131072 131072 65536\nspawn 98304 98304 6144\nspawn -98304 -98304 6144\nspawn 98304 -98304 6144\nspawn -98304 98304 6144\nspawn 32768 98304 6144\nspawn -32768 -98304 6144\nspawn 32768 -98304 6144\nspawn -32768 98304 6144\nspawn 98304 32768 6144\nspawn -98304 -32768 6144\nspawn 98304 -32768 6144\nspawn -98304 32768 6144\nspawn 32768 32768 6144\nspawn -32768 -32768 6144\nspawn 32768 -32768 6144\nspawn -32768 32768 6144\nframe\n";
 
-/// How often a worker looks whether the other one has committed its move, before it gives up.
+/// How often a worker looks whether the one that isn't held has committed its move, before it gives up.
 const MOST_LOOKS: u32 = 10_000_000;
 
 /// What a gate has seen of one worker: at which points it was called with the worker's slot and the number 1, and where
@@ -50,11 +50,14 @@ impl Seen {
         self.committed.store(true, Ordering::SeqCst);
     }
 
-    /// Waits until the worker has committed. The answer is whether it has before the last look.
-    fn has_committed(&self) -> bool {
+    /// Waits until the worker has committed, or a worker has failed. The answer is whether it has before the last look.
+    fn has_committed(&self, has_failed: &AtomicBool) -> bool {
         for _ in 0..MOST_LOOKS {
             if self.committed.load(Ordering::SeqCst) {
                 return true;
+            }
+            if has_failed.load(Ordering::SeqCst) {
+                return false;
             }
             yield_now();
         }
@@ -62,57 +65,68 @@ impl Seen {
     }
 }
 
-/// A gate of two workers that holds one of them where it has its leaves, until the other one has committed.
+/// A gate that holds all workers but one where they have their leaves, until that one has committed. Each worker that is
+/// held keeps its thread, so that one gets there only if each has a thread of its own.
 #[derive(Drop)]
 struct HoldingGate {
-    held: u8,
-    first: Seen,
-    second: Seen,
+    free: u8,
+    /// What was seen of each worker, by its number.
+    seen: Vec<Seen>,
     /// A worker was called for another's move, or one that is held has given up.
     has_failed: AtomicBool,
 }
 
 impl HoldingGate {
-    fn new(held: u8) -> HoldingGate {
-        HoldingGate {
-            held,
-            first: Seen::nothing(),
-            second: Seen::nothing(),
-            has_failed: AtomicBool::new(false),
+    fn new(alloc: Global, workers: u8, free: u8) -> Result<HoldingGate, AllocError> {
+        let mut seen = Vec::with_capacity(alloc, usize::from(workers))?;
+        for _ in 0..workers {
+            seen.push(Seen::nothing())?;
         }
+        Ok(HoldingGate {
+            free,
+            seen,
+            has_failed: AtomicBool::new(false),
+        })
     }
 
-    /// What is seen of this worker, and of the other one.
-    fn seen_of(&self, worker: u8) -> (&Seen, &Seen) {
-        if worker == 0 {
-            (&self.first, &self.second)
-        } else {
-            (&self.second, &self.first)
-        }
+    /// What is seen of this worker.
+    fn seen_of(&self, worker: u8) -> Option<&Seen> {
+        self.seen.get(usize::from(worker))
     }
 
     fn fail(&self) {
         self.has_failed.store(true, Ordering::SeqCst);
+    }
+
+    /// Holds a worker until the one that isn't held has committed.
+    fn hold(&self) {
+        let Some(free) = self.seen_of(self.free) else {
+            return self.fail();
+        };
+        if !free.has_committed(&self.has_failed) {
+            self.fail();
+        }
     }
 }
 
 impl Gate for HoldingGate {
     fn at(&self, moment: &Moment) {
         let worker = moment.worker();
-        if worker > 1 || moment.slot() != worker || moment.seq() != 1 {
-            self.fail();
-            return;
+        let Some(seen) = self.seen_of(worker) else {
+            return self.fail();
+        };
+        if moment.slot() != worker || moment.seq() != 1 {
+            return self.fail();
         }
-        let (mine, other) = self.seen_of(worker);
         match (moment.point(), moment.entry()) {
             (GatePoint::Leaves, _) => {
-                mine.leaves.store(true, Ordering::SeqCst);
-                if worker == self.held && !other.has_committed() {
-                    self.fail();
+                seen.leaves.store(true, Ordering::SeqCst);
+                if worker != self.free {
+                    self.hold();
                 }
             }
             (GatePoint::Computed, _) => {}
-            (GatePoint::Committed, Some(entry)) => mine.keep(entry),
+            (GatePoint::Committed, Some(entry)) => seen.keep(entry),
             (GatePoint::Committed, None) => self.fail(),
         }
     }
@@ -138,40 +152,72 @@ fn expect_seen(rt: &impl Abort, seen: &Seen, slot: u8, entries: &[Entry]) -> Res
     Ok(())
 }
 
-/// Of the frame's two entries the first is that of the worker that wasn't held, and each was seen.
-fn expect_entries(rt: &impl Abort, gate: &HoldingGate, entries: &[Entry]) -> Result<(), Fail> {
+/// Of the frame's entries, one of each worker, the first is that of the worker that wasn't held, and each was seen.
+fn expect_entries(
+    rt: &impl Abort,
+    gate: &HoldingGate,
+    workers: u8,
+    entries: &[Entry],
+) -> Result<(), Fail> {
     assert!(rt; !gate.has_failed.load(Ordering::SeqCst));
-    assert_eq!(rt; entries.len(), 2);
+    assert_eq!(rt; entries.len(), usize::from(workers));
     let first = entries.first().ok_or("a first entry")?;
-    assert!(rt; first.slot != gate.held);
-    expect_seen(rt, &gate.first, 0, entries)?;
-    expect_seen(rt, &gate.second, 1, entries)
+    assert_eq!(rt; first.slot, gate.free);
+    for slot in 0..workers {
+        let seen = gate.seen_of(slot).ok_or("a worker of the slot")?;
+        expect_seen(rt, seen, slot, entries)?;
+    }
+    Ok(())
 }
 
-/// Plays the far players on two workers with this gate, and gives the report.
+/// Puts the recording in which so many players join far from each other, and move once each, in order.
+fn put_far_players(text: &mut String, players: u8) -> Result<(), AllocError> {
+    let end = 7 + u16::from(players);
+    text.push_str(FAR_SPAWNS)?;
+    for port in 7..end {
+        writeln!(text, "from {port} 0101")?;
+    }
+    for port in 7..end {
+        writeln!(text, "from {port} 010201000000320000000000")?;
+    }
+    text.push_str("end\n")
+}
+
+/// Plays the recording with these words and this gate, and gives the report.
 fn report_with(
     rt: &(impl AllocGlobal + Threads + Wait + Sync),
+    words: &[&str],
+    input: &[u8],
     gate: &HoldingGate,
 ) -> Result<Report, AllocError> {
-    let mut source = MemSource::new(FAR_PLAYERS.as_bytes(), 1_000, &[]);
-    let mut sink = MemSink::new(rt.alloc(), 10_000, 1_000)?;
-    Ok(serve(rt, rt.alloc(), &["play", "2"], &mut source, &mut sink, gate))
+    let mut source = MemSource::new(input, 1_000, &[]);
+    let mut sink = MemSink::new(rt.alloc(), 20_000, 1_000)?;
+    Ok(serve(rt, rt.alloc(), words, &mut source, &mut sink, gate))
 }
 
-/// Plays the far players while this worker is held: the other one's move is the first.
+/// Plays as many far players as there are workers, while all workers but this one are held: its move is the first.
 fn expect_passed(
     rt: &(impl AllocGlobal + Abort + Threads + Wait + Sync),
-    held: u8,
+    words: &[&str],
+    input: &[u8],
+    workers: u8,
+    free: u8,
 ) -> Result<(), Fail> {
-    let gate = HoldingGate::new(held);
-    let report = report_with(rt, &gate)?;
+    let gate = HoldingGate::new(rt.alloc(), workers, free)?;
+    let report = report_with(rt, words, input, &gate)?;
     assert_eq!(rt; report.status, 0);
     let last = report.last.as_ref().ok_or("a journal")?;
-    expect_entries(rt, &gate, last.as_slice())
+    expect_entries(rt, &gate, workers, last.as_slice())
 }
 
+/// On 2, 3 and 16 workers.
 #[test]
 fn far_move_passes_held_move(rt: HostRuntime) -> Result<(), Fail> {
-    expect_passed(&rt, 0)?;
-    expect_passed(&rt, 1)
+    for (count, workers, last) in [("2", 2, 1), ("3", 3, 2), ("16", 16, 15)] {
+        let mut text = String::new(rt.alloc());
+        put_far_players(&mut text, workers)?;
+        expect_passed(&rt, &["play", count], text.as_bytes(), workers, 0)?;
+        expect_passed(&rt, &["play", count], text.as_bytes(), workers, last)?;
+    }
+    Ok(())
 }

@@ -3,7 +3,7 @@ use Rattle.region_locks.proofs.Runs.{known_point, read_all, read_tally, read_ref
 use Rattle.region_locks.proofs.moving.run.read_region.Goals as goal
 
 pub at_effect-requires-clause-at : goal.at_effect-requires-clause-at
-at_effect-requires-clause-at g c =
+at_effect-requires-clause-at g c κs within =
     known_point (fixed_in g.A.Action.meaning c.args.words.now) c.args.hand.now c.read_nodes-seen.new.hand c.read_effect-effect.new.hand c.read_nodes-seen.ensures.view c.read_effect-effect.ensures.view c.read_effect-effect.result
 
 pub returns-clause-read : goal.returns-clause-read
