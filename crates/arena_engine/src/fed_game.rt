@@ -11,7 +11,7 @@ use crate::stop::Stop;
 use arena_map::ArenaMap;
 use demo_lines::Event;
 use edge_io::Sink;
-use feed_queue::{NoFeedGate, PlaceList, gather};
+use feed_queue::{ArrivalOrder, NoFeedGate, gather};
 use move_journal::Journal;
 use out_text::Printer;
 use packet_read::{Arrival, ArrivalBytes};
@@ -32,7 +32,7 @@ pub struct FedGame {
     fed: Vec<Arrival>,
     playback: Playback,
     last: Option<Journal>,
-    order: Option<PlaceList>,
+    order: Option<ArrivalOrder>,
     printer: Printer,
 }
 
@@ -64,11 +64,11 @@ fn copied(arrival: &Arrival) -> Arrival
     }
 }
 
-/// Hands packets to a playback in the order of these places, and keeps them so.
+/// Hands packets to a playback in the order in which they arrived, and keeps them so.
 fn hand_over<R: Threads + Wait + Sync, G: Gate>(
     host: &Host<R, G>,
     waiting: &[Arrival],
-    order: &[u32],
+    order: &ArrivalOrder,
     fed: &mut Vec<Arrival>,
     playback: &mut Playback,
 ) -> Result<(), AllocError>
@@ -79,7 +79,8 @@ fn hand_over<R: Threads + Wait + Sync, G: Gate>(
         ≡ record { server = playback.old.course.server; opened = Some (in_order order.now waiting.now) }) }
     ensures fed { OnOk result (fed.new.items ≡ in_order order.now waiting.now) }
 {
-    for place in order {
+    let places = order.as_slice();
+    for place in places {
         let arrival = &waiting[*place as usize];
         playback.take(host, Event::From(copied(arrival)))?;
         fed.push(copied(arrival))?;
@@ -93,14 +94,14 @@ fn feed_frame<R: Threads + Wait + Sync, G: Gate>(
     waiting: &[Arrival],
     fed: &mut Vec<Arrival>,
     playback: &mut Playback,
-) -> Result<PlaceList, AllocError>
+) -> Result<ArrivalOrder, AllocError>
     requires few { length waiting.now ≤ MOST_ARRIVALS }
     requires opened { playback.old.course.opened ≡ Some [] }
     requires empty { fed.old.items ≡ [] }
     ensures { IfOk result (HandsPackets waiting.now playback.old.course playback.new.course fed.new.items) }
 {
     let order = gather(host.rt, host.alloc, waiting, &NoFeedGate)?;
-    hand_over(host, waiting, order.as_slice(), fed, playback)?;
+    hand_over(host, waiting, &order, fed, playback)?;
     Ok(order)
 }
 
@@ -111,7 +112,7 @@ fn feed_open<R: Threads + Wait + Sync, G: Gate>(
     waiting: &[Arrival],
     fed: &mut Vec<Arrival>,
     playback: &mut Playback,
-) -> Result<Option<PlaceList>, AllocError>
+) -> Result<Option<ArrivalOrder>, AllocError>
     requires few { IfSome (packets_if is_open waiting.now) (λ arrivals. length arrivals ≤ MOST_ARRIVALS) }
     requires opened { playback.old.course.opened ≡ games.none_handed (packets_if is_open waiting.now) }
     requires empty { fed.old.items ≡ [] }
@@ -126,7 +127,7 @@ fn feed_open<R: Threads + Wait + Sync, G: Gate>(
 }
 
 /// The order of the frame that was closed, if one was, and else the one before it.
-fn newest_order(closed: Option<PlaceList>, before: Option<PlaceList>) -> Option<PlaceList>
+fn newest_order(closed: Option<ArrivalOrder>, before: Option<ArrivalOrder>) -> Option<ArrivalOrder>
     ensures { result ≡ games.newest_order closed before }
 {
     match closed {
@@ -252,7 +253,7 @@ impl FedGame {
     }
 
     /// The order of arrival and the journal of the last frame that was run, if one was.
-    pub fn into_last(self) -> (Option<PlaceList>, Option<Journal>)
+    pub fn into_last(self) -> (Option<ArrivalOrder>, Option<Journal>)
         ensures { record { order = result.0; journal = entries_if result.1 } ≡ self.last }
     {
         let FedGame {

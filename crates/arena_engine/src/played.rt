@@ -1,7 +1,7 @@
 use crate::fed_game::FedGame;
 use crate::game::Game;
 use crate::stop::Stop;
-use feed_queue::PlaceList;
+use feed_queue::ArrivalOrder;
 use move_journal::Journal;
 
 /// How the playing of a recording ended.
@@ -12,7 +12,7 @@ pub struct Played {
     /// The journal of the last frame that was run, if one was.
     pub last: Option<Journal>,
     /// The order of arrival of its packets, where client threads sent them.
-    pub order: Option<PlaceList>,
+    pub order: Option<ArrivalOrder>,
 }
 
 impl Played {

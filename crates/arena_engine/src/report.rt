@@ -1,7 +1,7 @@
 ghost use Rattle.std.specs.Prelude.{◌≡◌, [], None};
 
 use crate::status::Status;
-use feed_queue::PlaceList;
+use feed_queue::ArrivalOrder;
 use move_journal::{Journal, JournalList};
 use std::alloc::Global;
 
@@ -23,7 +23,7 @@ pub struct Report {
     pub last: Option<Journal>,
     /// The order of arrival of the packets of the last frame that was run, as places in the order of the recording, where
     /// client threads sent them and a frame was run.
-    pub order: Option<PlaceList>,
+    pub order: Option<ArrivalOrder>,
     /// The journals of all frames that were run, for `match`; none for the other commands.
     pub all: JournalList,
 }
@@ -127,7 +127,7 @@ impl Report {
     }
 
     /// The same report, with this order of arrival.
-    pub(crate) fn with_order(self, order: Option<PlaceList>) -> Report
+    pub(crate) fn with_order(self, order: Option<ArrivalOrder>) -> Report
         ensures status { result.status ≡ self.status }
         ensures place { (result.line ≡ self.line) × (result.fault ≡ self.fault) × (result.rule ≡ self.rule) }
         ensures last { result.last ≡ self.last }

@@ -2,4 +2,5 @@
 pub mod Orders
 pub mod Hands
 pub mod Rule
+pub mod Popped
 pub mod Laws

@@ -1,9 +1,11 @@
 ghost use Rattle.std.specs.Prelude.{◌≡◌, ◌≤◌, Some, [], length, IfOk};
 ghost use Rattle.packet_read.specs.declared.arrival.TheConstants.{MOST_ARRIVALS};
-ghost use Rattle.crossbeam_queue.specs.Passes.{view, IsPassOf, ruled_capacity};
-ghost use Rattle.feed_queue.specs.Hands.{hand, feeder_hand};
+ghost use Rattle.crossbeam_queue.specs.Passes.{view, IsPassOf, IsSamePass, ruled_capacity};
+ghost use Rattle.feed_queue.specs.Hands.{hand, nothing_done, feeder_hand};
 ghost use Rattle.feed_queue.specs.Orders.{ports_of, places_below, Fit, IsOrder};
+ghost use Rattle.feed_queue.specs.Popped.{HasPopped};
 
+use crate::arrival_order::ArrivalOrder;
 use crate::gate::FeedGate;
 use crate::hand::{Evens, Gets, Hand, Line, Odds, Ported};
 use crate::place_list::PlaceList;
@@ -16,19 +18,22 @@ use std::sync::Wait;
 use std::thread;
 use std::thread::Threads;
 
-/// Reads a queue to its end, which has all places that the feeders have pushed.
+/// Reads a queue to its end, which has all places that the feeders have pushed. What it gives is what the pass has
+/// popped, beside this pass.
 fn read_all<N: Ported, R: Wait>(
     rt: &R,
     line: &Line<N>,
     mut pass: Pass<u32, Hand>,
     count: usize,
-) -> PlaceList
+) -> (PlaceList, Pass<u32, Hand>)
     requires pass { IsPassOf line.now pass }
     requires fed { view pass ≡ hand (Some (places_below N.ports 0 (length N.ports)))
         (Some (places_below N.ports 1 (length N.ports))) (Some []) }
     requires count { count ≡ length N.ports }
     requires few { count ≤ MOST_ARRIVALS }
-    ensures { IsOrder N.ports result }
+    ensures order { IsOrder N.ports result.0 }
+    ensures popped { HasPopped result.1 result.0 }
+    ensures pass { IsSamePass pass result.1 }
 {
     let mut order = PlaceList::new();
     for _ in 0..count {
@@ -38,22 +43,25 @@ fn read_all<N: Ported, R: Wait>(
         let _ = order.push(place);
     }
     line.learn_as::<Gets<N>>(&mut pass);
-    order
+    (order, pass)
 }
 
-/// The order in which two feeders send these packets, with the ports picked.
-fn gather_as<N: Ported + Send + Sync, R: Threads + Wait + Sync, F: FeedGate>(
+/// The order in which two feeders send these packets through this queue: what this pass of it has popped in the end,
+/// beside the pass.
+fn gather_through<N: Ported + Send + Sync, R: Threads + Wait + Sync, F: FeedGate>(
     rt: &R,
-    alloc: Global,
+    line: &Line<N>,
+    mut pass: Pass<u32, Hand>,
     arrivals: &[Arrival],
     gate: &F,
-) -> Result<PlaceList, AllocError>
-    requires ports { N.ports ≡ ports_of arrivals.now }
-    requires few { length arrivals.now ≤ MOST_ARRIVALS }
-    ensures { IfOk result (IsOrder N.ports) }
+) -> (PlaceList, Pass<u32, Hand>)
+    requires pass { IsPassOf line.now pass }
+    requires unused { view pass ≡ nothing_done }
+    requires fits { Fit N.ports (ruled_capacity line.now) arrivals.now }
+    ensures order { IsOrder N.ports result.0 }
+    ensures popped { HasPopped result.1 result.0 }
+    ensures pass { IsSamePass pass result.1 }
 {
-    let (queue, mut pass) = Line::<N>::ruled(alloc, arrivals.len().max(1))?;
-    let line = &queue;
     let evens = line.another::<Evens>(&mut pass);
     let odds = line.another::<Odds>(&mut pass);
     let (evens, odds) = thread::join(
@@ -73,7 +81,23 @@ fn gather_as<N: Ported + Send + Sync, R: Threads + Wait + Sync, F: FeedGate>(
     );
     line.absorb::<Evens>(&mut pass, evens);
     line.absorb::<Odds>(&mut pass, odds);
-    Ok(read_all::<N, R>(rt, line, pass, arrivals.len()))
+    read_all::<N, R>(rt, line, pass, arrivals.len())
+}
+
+/// The order in which two feeders send these packets, with the ports picked.
+fn gather_as<N: Ported + Send + Sync, R: Threads + Wait + Sync, F: FeedGate>(
+    rt: &R,
+    alloc: Global,
+    arrivals: &[Arrival],
+    gate: &F,
+) -> Result<ArrivalOrder, AllocError>
+    requires ports { N.ports ≡ ports_of arrivals.now }
+    requires few { length arrivals.now ≤ MOST_ARRIVALS }
+    ensures { IfOk result (IsOrder N.ports) }
+{
+    let (queue, pass) = Line::<N>::ruled(alloc, arrivals.len().max(1))?;
+    let (places, reader) = gather_through::<N, R, F>(rt, &queue, pass, arrivals, gate);
+    Ok(ArrivalOrder::of_popped(places, reader))
 }
 
 /// The order in which two client threads send these packets, as places in `arrivals`: feeder 0 sends those of even ports
@@ -87,7 +111,7 @@ pub fn gather<R: Threads + Wait + Sync, F: FeedGate>(
     alloc: Global,
     arrivals: &[Arrival],
     gate: &F,
-) -> Result<PlaceList, AllocError>
+) -> Result<ArrivalOrder, AllocError>
     requires { length arrivals.now ≤ MOST_ARRIVALS }
     ensures { IfOk result (IsOrder (ports_of arrivals.now)) }
 {

@@ -1,11 +1,13 @@
 //! The order of arrival of a frame's packets, as two client threads send them.
 #![tactic(auto)]
 
+pub use arrival_order::ArrivalOrder;
 pub use gate::{FeedGate, NoFeedGate};
 pub use gathering::gather;
 pub use laws::{orders_have_each_place_once, orders_keep_each_port};
-pub use place_list::{MOST_PLACES, PlaceList};
+pub use place_list::MOST_PLACES;
 
+mod arrival_order;
 mod gate;
 mod gathering;
 mod hand;

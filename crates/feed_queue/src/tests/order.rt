@@ -1,4 +1,5 @@
-use crate::{MOST_PLACES, NoFeedGate, PlaceList, gather};
+use crate::place_list::PlaceList;
+use crate::{MOST_PLACES, NoFeedGate, gather};
 use packet_read::{Arrival, ArrivalBytes};
 use std::test::*;
 

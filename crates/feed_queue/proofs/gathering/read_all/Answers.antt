@@ -22,8 +22,8 @@ unreachable-requires g c =
     let held = subst (λ (v : Hand). Held 0 (Holds ports v)) c.loop.invariant.1 c.in_default.ensures.rule.1 in
     not_empty ports c.loop.order held (omega (arith, c.loop.invariant.2, c.loop-test.true, c.requires.count))
 
-pub returns : goal.returns
-returns g c =
+pub returns-clause-order : goal.returns-clause-order
+returns-clause-order g c =
     let ports = g.N.Ported.ports in
     let learned = c.learn_as.ensures.rule in
     all_popped ports c.loop.order learned.0 (subst (λ (v : Hand). Holds ports v learned.0) c.loop.invariant.1 learned.1)
