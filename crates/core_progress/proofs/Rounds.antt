@@ -22,7 +22,7 @@ use Rattle.core_progress.specs.Progress.{serves_next, can_step, served_by, serve
 use Rattle.core_progress.specs.Laws.{BusyRoundsAreFew, RoundsEndAllCommands}
 use Rattle.core_progress.proofs.Serving.{some_seat_can_step}
 use Rattle.core_progress.proofs.Calls.{call_left, calls_left}
-use Rattle.core_progress.proofs.Sums.{sum_some}
+use Rattle.core_progress.proofs.Sums.{none_of, sum_some}
 
 -- ---- steps are left exactly where a command is in hand
 
@@ -256,7 +256,7 @@ rounds_end F m (round ∷ rounds) lawful start depth is are none few i =
     let after = after_calls F m round in
     let left = calls_left F m round lawful start depth is are.0.may in
     let none_here : commands_given round ≡ 0 = omega (arith, none) in
-    let no_more : commands_given round * steps_of_command F ≡ 0 = ap (λ (n : ℕ). n * steps_of_command F) none_here in
+    let no_more : commands_given round * steps_of_command F ≡ 0 = none_of (commands_given round) (steps_of_command F) none_here in
     let fewer : steps_of_all F after ≤ length rounds = elim (none_or_some F m) [
       | inl done ↦ omega (arith, left, no_more, done)
       | inr some ↦ let one = busy_round F m round lawful start is are.0 some in omega (arith, left, no_more, one, few)

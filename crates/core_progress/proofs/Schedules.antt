@@ -11,6 +11,7 @@ use Rattle.core_progress.specs.Progress.{can_step, served_by, commands_given, st
 use Rattle.core_progress.specs.Laws.{FairSchedulesEndAllCommands}
 use Rattle.core_progress.proofs.Serving.{some_seat_can_step}
 use Rattle.core_progress.proofs.Calls.{call_left}
+use Rattle.core_progress.proofs.Sums.{none_of}
 use Rattle.core_progress.proofs.Rounds.{none_or_some, one_served, none_in_hand, still_can, zero_or_more}
 
 module _ (F : Fixed) (m : Machine) (schedule : ℕ → Call) (lawful : IsLawful F) (start : IsStart F) (depth : IsTreeDepth F.tree.depth) (first : StandsSomehow F m) (fair : IsFair F m schedule) where
@@ -28,7 +29,7 @@ module _ (F : Fixed) (m : Machine) (schedule : ℕ → Call) (lawful : IsLawful 
   one_less n since =
       let is = stands n in
       let call = call_left F (at n) is.history is.now (schedule n) lawful start depth is.stands (fair.may n) in
-      let none : commands_given (schedule n ∷ []) * steps_of_command F ≡ 0 = ap (λ (k : ℕ). k * steps_of_command F) (fair.none_given n since) in
+      let none : commands_given (schedule n ∷ []) * steps_of_command F ≡ 0 = none_of (commands_given (schedule n ∷ [])) (steps_of_command F) (fair.none_given n since) in
       omega (arith, call, none)
 
   -- what is left later is no more

@@ -1,5 +1,5 @@
 -- Sums of which one number is lowered, or is not 0.
-use Rattle.std.proofs.Common.{◌≡◌, ℕ, zero, suc, ◌+◌, ◌<◌, ◌≤◌, ◌⊎◌, false, List, [], ◌∷◌, refl, sym, ◌∙◌, subst, inl, inr, arith}
+use Rattle.std.proofs.Common.{◌≡◌, ℕ, zero, suc, ◌+◌, ◌*◌, ◌<◌, ◌≤◌, ◌⊎◌, false, List, [], ◌∷◌, refl, sym, ◌∙◌, subst, inl, inr, arith}
 use Rattle.std.specs.Prelude.{◌==◌}
 use Rattle.std.specs.List.{range_with_len, sum_by}
 use Rattle.std.proofs.lemmas.Bool.{cases_Bool, true≢false, eqb-true, eq-eqb, false_from_ne_true}
@@ -84,3 +84,7 @@ sum_higher f g i k low (suc n) others here =
           let rest = sum_higher f g i k (low + 1) n others here in
           omega (arith, new, old, first, rest)
     ]
+
+-- no command takes no step
+pub none_of : (n k : ℕ) → n ≡ 0 → n * k ≡ 0
+none_of n k none = rw none (omega arith)
