@@ -1,14 +1,16 @@
 -- What calls serve, and what is left after them.
-use Rattle.std.proofs.Common.{◌≡◌, ℕ, zero, suc, ◌+◌, ◌*◌, ◌<◌, ◌≤◌, Bool, true, false, List, [], ◌∷◌, refl, sym, ap, ◌∙◌, subst, inl, inr, Option, Some, None, is_some, arith}
-use Rattle.std.specs.Prelude.{◌==◌, ◌||◌, if◌then◌else◌}
+use Rattle.std.proofs.Common.{◌≡◌, ℕ, ◌+◌, ◌*◌, ◌<◌, ◌≤◌, true, false, List, [], ◌∷◌, length, refl, sym, ap, ◌∙◌, subst, inl, inr, Option, Some, None, is_some, arith}
+use Rattle.std.specs.Prelude.{◌==◌, if◌then◌else◌}
 use Rattle.std.specs.List.{range_with_len, sum_by}
-use Rattle.std.proofs.lemmas.Bool.{cases_Bool, or_cases, cond-true, cond-false, eqb-true}
+use Rattle.std.proofs.lemmas.Bool.{cases_Bool, or_cases}
+use Rattle.std.proofs.lemmas.List.{length-map}
 use Rattle.areanode.specs.Trees.{IsTreeDepth}
+use Rattle.entity_recs.specs.declared.effect.NewState.{NewState}
 use Rattle.entity_recs.specs.Commands.{Command}
 use Rattle.entity_recs.specs.Worlds.{World}
 use Rattle.entity_recs.specs.Histories.{Item}
 use Rattle.core_steps.specs.Cells.{put}
-use Rattle.core_steps.specs.Views.{Fixed, View, stage_of, is_busy}
+use Rattle.core_steps.specs.Views.{Fixed, stage_of, is_busy}
 use Rattle.core_steps.specs.Stands.{IsLawful, IsStart}
 use Rattle.core_steps.specs.Machine.{Machine, Next, next_of, word_of_next, machine_after, MachineStands}
 use Rattle.core_steps.specs.Calls.{Call, Give, Go, GiveUp, gone_on, with_given, after_call, after_calls, has_command, MayBeGiven, MayBeCalled, MayAllBeCalled, StandsSomehow}
@@ -19,7 +21,7 @@ use Rattle.core_steps.proofs.OneView.{steps_change_one_view}
 use Rattle.core_steps.proofs.Reached.{stands_called}
 use Rattle.core_steps.proofs.SameSeats.{SeatPart, same_seats}
 use Rattle.core_seats.specs.StepsLeft.{is_served}
-use Rattle.core_progress.specs.Progress.{serves_next, can_step, served_by, served, commands_given, view_steps, given_steps, steps_of_command, seat_steps, steps_of_all}
+use Rattle.core_progress.specs.Progress.{serves_next, served_by, served, commands_given, view_steps, given_steps, steps_of_command, seat_steps, steps_of_all}
 use Rattle.core_progress.specs.Laws.{ServedStepsAreBounded}
 use Rattle.core_progress.proofs.Lowering.{lowers, keeps}
 use Rattle.core_progress.proofs.Sums.{sum_lower, sum_higher}
@@ -112,6 +114,14 @@ calls_left F m (call ∷ calls) lawful start depth is may =
     let more = given_more call calls (steps_of_command F) in
     omega (arith, one, rest, more)
 
+-- how many steps a command takes
+pub command_steps : (F : Fixed) → steps_of_command F ≡ 24471 + 2 * length F.start.ids
+command_steps F =
+    let long = length-map F.start.ids (λ (id : ℕ). let s : NewState = record { id = id; state = 0 } in s) in
+    omega (arith, long)
+
 pub served_steps_are_bounded : ServedStepsAreBounded
 served_steps_are_bounded F m history now calls lawful start depth is may =
-    calls_left F m calls lawful start depth (record { history = history; now = now; stands = is }) may
+    let left = calls_left F m calls lawful start depth (record { history = history; now = now; stands = is }) may in
+    let each = ap (λ (steps : ℕ). commands_given calls * steps) (command_steps F) in
+    omega (arith, left, each)

@@ -1,29 +1,20 @@
 -- What the laws say from the start on: how many steps a command takes, and that it is logged.
-use Rattle.std.proofs.Common.{◌≡◌, ℕ, ◌+◌, ◌*◌, ◌≤◌, Bool, true, false, List, [], ◌∷◌, ◌++◌, length, refl, sym, ap, ◌∙◌, subst, inl, inr, Option, Some, None, is_some, arith}
-use Rattle.std.specs.Prelude.{◌||◌, if◌then◌else◌}
-use Rattle.std.specs.List.{range_with_len, sum_by}
+use Rattle.std.proofs.Common.{◌≡◌, ℕ, Bool, true, false, List, [], ◌++◌, refl, sym, ap, ◌∙◌, inl, inr, Option, Some, None, is_some, arith}
+use Rattle.std.specs.Prelude.{◌||◌}
 use Rattle.std.proofs.lemmas.Bool.{true≢false, false≢true}
-use Rattle.std.proofs.lemmas.List.{length-map, append-nil}
-use Rattle.entity_recs.specs.declared.effect.NewState.{NewState}
+use Rattle.std.proofs.lemmas.List.{append-nil}
 use Rattle.entity_recs.specs.Commands.{Command}
 use Rattle.entity_recs.specs.Histories.{commands_of}
-use Rattle.core_steps.specs.Views.{Fixed, Idle, Stage, AtRest, AtOwning, AtTaking, AtChecking, AtReading, AtClaiming, AtStoring, AtReleasing, AtReturning, AtYielding, View, stage_of, is_busy}
-use Rattle.core_steps.specs.Machine.{Machine}
-use Rattle.core_steps.specs.Calls.{start_machine, after_calls, has_command, is_pursued, pursued, pursued_of}
+use Rattle.core_steps.specs.Views.{Fixed, Stage, AtRest, AtOwning, AtTaking, AtChecking, AtReading, AtClaiming, AtStoring, AtReleasing, AtReturning, AtYielding, View, stage_of, is_busy}
+use Rattle.core_steps.specs.Calls.{start_machine, after_calls, is_pursued, pursued_of}
 use Rattle.core_steps.proofs.Reached.{machine_start_stands, idle_at_start}
 use Rattle.core_steps.proofs.Kept.{log_holds_the_commands_kept}
-use Rattle.core_seats.specs.StepsLeft.{left_at}
-use Rattle.core_progress.specs.Progress.{commands_given, longest_effect, steps_of_command, steps_of_all}
+use Rattle.core_progress.specs.Progress.{steps_of_all}
 use Rattle.core_progress.specs.Laws.{CommandsTakeFewSteps, EndedCommandsAreLogged}
 use Rattle.core_progress.proofs.Calls.{served_steps_are_bounded}
 use Rattle.core_progress.proofs.Rounds.{none_or_some}
 
--- ---- how many steps a command takes
-
-command_steps : (F : Fixed) → steps_of_command F ≡ 24471 + 2 * length F.start.ids
-command_steps F =
-    let long = length-map F.start.ids (λ (id : ℕ). let s : NewState = record { id = id; state = 0 } in s) in
-    omega (arith, long)
+-- ---- how many steps commands take
 
 -- at the start no command is in hand, so no step is left
 none_at_start : (F : Fixed) (room : ℕ) (rooms : List ℕ) → steps_of_all F (start_machine F room rooms) ≡ 0
@@ -39,8 +30,7 @@ commands_take_few_steps F room rooms calls lawful start depth may =
     let first = machine_start_stands F room rooms in
     let bound = served_steps_are_bounded F (start_machine F room rooms) [] F.start calls lawful start depth first may in
     let none = none_at_start F room rooms in
-    let each = ap (λ (steps : ℕ). commands_given calls * steps) (command_steps F) in
-    omega (arith, bound, none, each)
+    omega (arith, bound, none)
 
 -- ---- that it is logged
 

@@ -14,14 +14,14 @@ use Rattle.core_steps.specs.Steps.{Core, is_taking, first_yield}
 use Rattle.core_steps.specs.Stands.{IsLawful, IsStart}
 use Rattle.core_steps.specs.Machine.{Machine, Next, Begin, LoadOwn, LoadAgain, TakeNode, ClaimNode, ReadList, ReadPlayer, ReadState, CommitMove, StoreWord, GiveNode, YieldNode, YieldCount, next_at, next_of, quitting, beginning, word_of_next, core_after, machine_after, MachineStands}
 use Rattle.core_steps.specs.Calls.{Call, Give, Go, GiveUp, gone_on, with_given, with_quitting, after_call, after_calls, has_command, MayBeGiven, MayBeCalled, MayAllBeCalled, StandsSomehow}
-use Rattle.core_steps.proofs.Puts.{put_same, put_other}
+use Rattle.core_steps.proofs.Puts.{put_other}
 use Rattle.core_steps.proofs.OneView.{steps_change_one_view}
 use Rattle.core_steps.proofs.Reached.{stands_called}
 use Rattle.core_seats.specs.StepsLeft.{is_served, left_at}
 use Rattle.core_progress.specs.Progress.{serves_next, can_step, served_by, served, commands_given, effect_or_longest, given_steps, steps_of_command, seat_steps, steps_of_all, lets_go, IsRound, AreRounds, after_rounds, commands_in, any_in_hand, busy_rounds}
 use Rattle.core_progress.specs.Laws.{BusyRoundsAreFew, RoundsEndAllCommands}
 use Rattle.core_progress.proofs.Serving.{some_seat_can_step}
-use Rattle.core_progress.proofs.Calls.{call_left, calls_left}
+use Rattle.core_progress.proofs.Calls.{call_left, calls_left, command_steps}
 use Rattle.core_progress.proofs.Sums.{none_of, sum_some}
 
 -- ---- steps are left exactly where a command is in hand
@@ -247,7 +247,9 @@ busy_rounds_left F m (round ∷ rounds) lawful start depth is are =
 
 pub busy_rounds_are_few : BusyRoundsAreFew
 busy_rounds_are_few F m history now rounds lawful start depth is are =
-    busy_rounds_left F m rounds lawful start depth (record { history = history; now = now; stands = is }) are
+    let few = busy_rounds_left F m rounds lawful start depth (record { history = history; now = now; stands = is }) are in
+    let each = ap (λ (steps : ℕ). commands_in rounds * steps) (command_steps F) in
+    omega (arith, few, each)
 
 rounds_end : (F : Fixed) (m : Machine) (rounds : List (List Call)) → IsLawful F → IsStart F → IsTreeDepth F.tree.depth → StandsSomehow F m → AreRounds F m rounds
     → commands_in rounds ≡ 0 → steps_of_all F m ≤ length rounds → (i : ℕ) → has_command (after_rounds F m rounds) i ≡ false

@@ -5,7 +5,7 @@ use Rattle.areanode.specs.Trees.{IsTreeDepth}
 use Rattle.core_steps.specs.Views.{Fixed}
 use Rattle.core_steps.specs.Stands.{IsLawful, IsStart}
 use Rattle.core_steps.specs.Machine.{Machine}
-use Rattle.core_steps.specs.Calls.{Call, Go, has_command, StandsSomehow}
+use Rattle.core_steps.specs.Calls.{Call, Go, StandsSomehow}
 use Rattle.core_steps.proofs.Reached.{stands_called}
 use Rattle.core_progress.specs.Progress.{can_step, served_by, commands_given, steps_of_command, steps_of_all, machine_at, IsFair, EndsSometime}
 use Rattle.core_progress.specs.Laws.{FairSchedulesEndAllCommands}

@@ -7,26 +7,27 @@ use Rattle.core_steps.specs.Views.{Fixed}
 use Rattle.core_steps.specs.Stands.{IsLawful, IsStart}
 use Rattle.core_steps.specs.Machine.{Machine, MachineStands}
 use Rattle.core_steps.specs.Calls.{Call, start_machine, after_calls, MayAllBeCalled, has_command, kept_by}
-use Rattle.core_progress.specs.Progress.{served, commands_given, steps_of_all, steps_of_command, StepsOrWaits}
+use Rattle.core_progress.specs.Progress.{served, commands_given, steps_of_all, StepsOrWaits}
 use Rattle.core_progress.specs.Progress.{SomeSeatSteps, AreRounds, after_rounds, commands_in, busy_rounds, IsFair}
 use Rattle.core_progress.specs.Progress.{EndsSometime}
 
 -- whatever calls are made, the steps that are served, and those that are left after them, are at most those that were
--- left before and those of the commands that were given
+-- left before, and for each command that is given 24,471 and two for each live id
 abbrev pub ServedStepsAreBounded : Type 0
 ServedStepsAreBounded =
     (F : Fixed) (m : Machine) (history : List Item) (now : World) (calls : List Call) → IsLawful F → IsStart F
     → IsTreeDepth F.tree.depth → MachineStands F m history now → MayAllBeCalled F m calls
     → served F m calls + steps_of_all F (after_calls F m calls)
-    ≤ steps_of_all F m + commands_given calls * steps_of_command F
+    ≤ steps_of_all F m + commands_given calls * (24471 + 2 * length F.start.ids)
 
--- whatever calls are made from the start on: for each command that is given at most 24,471 steps are served, and two for
--- each live id
+-- whatever calls are made from the start on: of each command that is given at most 24,471 steps, and two for each live
+-- id, are served or left
 abbrev pub CommandsTakeFewSteps : Type 0
 CommandsTakeFewSteps =
     (F : Fixed) (room : ℕ) (rooms : List ℕ) (calls : List Call) → IsLawful F → IsStart F → IsTreeDepth F.tree.depth
     → MayAllBeCalled F (start_machine F room rooms) calls
-    → served F (start_machine F room rooms) calls ≤ commands_given calls * (24471 + 2 * length F.start.ids)
+    → served F (start_machine F room rooms) calls + steps_of_all F (after_calls F (start_machine F room rooms) calls)
+    ≤ commands_given calls * (24471 + 2 * length F.start.ids)
 
 -- a seat with a command in hand can step, or it waits for a node that another seat holds, and never both
 abbrev pub SeatsStepOrWait : Type 0
@@ -40,12 +41,13 @@ SomeSeatCanStep =
     (F : Fixed) (m : Machine) (history : List Item) (now : World) (i : ℕ) → MachineStands F m history now
     → has_command m i ≡ true → SomeSeatSteps F m
 
--- of any rounds, at most as many begin with a command in hand as steps were left, and as the commands take that they give
+-- of any rounds, at most as many begin with a command in hand as steps were left, and 24,471 and two for each live id for
+-- each command that they give
 abbrev pub BusyRoundsAreFew : Type 0
 BusyRoundsAreFew =
     (F : Fixed) (m : Machine) (history : List Item) (now : World) (rounds : List (List Call)) → IsLawful F
     → IsStart F → IsTreeDepth F.tree.depth → MachineStands F m history now → AreRounds F m rounds
-    → busy_rounds F m rounds ≤ steps_of_all F m + commands_in rounds * steps_of_command F
+    → busy_rounds F m rounds ≤ steps_of_all F m + commands_in rounds * (24471 + 2 * length F.start.ids)
 
 -- after as many rounds that give no command as there were steps left, no command is in hand
 abbrev pub RoundsEndAllCommands : Type 0

@@ -3,14 +3,14 @@ ghost use Rattle.core_progress.specs.Laws.{SomeSeatCanStep, RoundsEndAllCommands
 ghost use Rattle.core_progress.specs.Laws.{BusyRoundsAreFew, EndedCommandsAreLogged};
 
 /// Whatever calls are made of a machine that stands, in whatever order: the steps that are served, and those that are
-/// left after them, are at most those that were left before and those of the commands that were given. So a served step
-/// lowers what is left by one at least, and a refused take doesn't raise it.
+/// left after them, are at most those that were left before, and for each command that is given 24,471 and two for each
+/// live id. So a served step lowers what is left by one at least, and a refused take doesn't raise it.
 pub fn served_steps_are_bounded()
     ensures { ServedStepsAreBounded }
 {}
 
-/// Whatever calls are made from the start on, at most 24,471 steps are served for each command that is given, and two
-/// more for each live id.
+/// Whatever calls are made from the start on: of each command that is given at most 24,471 steps, and two for each live
+/// id, are served or left.
 pub fn commands_take_few_steps()
     ensures { CommandsTakeFewSteps }
 {}
@@ -26,8 +26,8 @@ pub fn some_seat_can_step()
     ensures { SomeSeatCanStep }
 {}
 
-/// Of any rounds, one after another, at most as many begin with a command in hand as there were steps left, and as the
-/// commands take that are given in them. In a round each seat that can step as it begins makes its next step at least
+/// Of any rounds, one after another, at most as many begin with a command in hand as there were steps left, and 24,471
+/// and two for each live id for each command that is given in them. In a round each seat that can step as it begins makes its next step at least
 /// once, in any order, whether it is served by then or not; commands may be given, and seats asked to give up, at any
 /// time.
 pub fn busy_rounds_are_few()
