@@ -1,15 +1,16 @@
 -- That all moves come to their end.
-use Rattle.std.specs.Prelude.{ℕ, ◌≡◌, ◌≤◌, ◌+◌, ◌*◌, true, false, length, List, []}
+use Rattle.std.specs.Prelude.{ℕ, ◌≡◌, ◌≤◌, ◌+◌, ◌*◌, true, false, length, List, [], map}
+use Rattle.std.specs.List.{range_with_len}
 use Rattle.areanode.specs.Trees.{IsTreeDepth}
 use Rattle.entity_recs.specs.Worlds.{World}
 use Rattle.entity_recs.specs.Histories.{Item, commands_of}
 use Rattle.core_steps.specs.Views.{Fixed}
 use Rattle.core_steps.specs.Stands.{IsLawful, IsStart}
 use Rattle.core_steps.specs.Machine.{Machine, MachineStands}
-use Rattle.core_steps.specs.Calls.{Call, start_machine, after_calls, MayAllBeCalled, has_command, kept_by}
+use Rattle.core_steps.specs.Calls.{Call, Go, start_machine, after_calls, MayAllBeCalled, has_command, kept_by}
 use Rattle.core_progress.specs.Progress.{served, commands_given, steps_of_all, StepsOrWaits}
-use Rattle.core_progress.specs.Progress.{SomeSeatSteps, AreRounds, after_rounds, commands_in, busy_rounds, IsFair}
-use Rattle.core_progress.specs.Progress.{EndsSometime}
+use Rattle.core_progress.specs.Progress.{SomeSeatSteps, IsRound, AreRounds, after_rounds, commands_in, busy_rounds}
+use Rattle.core_progress.specs.Progress.{IsFair, EndsSometime}
 
 -- whatever calls are made, the steps that are served, and those that are left after them, are at most those that were
 -- left before, and for each command that is given 24,471 and two for each live id
@@ -40,6 +41,12 @@ abbrev pub SomeSeatCanStep : Type 0
 SomeSeatCanStep =
     (F : Fixed) (m : Machine) (history : List Item) (now : World) (i : ℕ) → MachineStands F m history now
     → has_command m i ≡ true → SomeSeatSteps F m
+
+-- to let each seat go on once, in the order of their numbers, is a round
+abbrev pub TurnsAreRounds : Type 0
+TurnsAreRounds =
+    (F : Fixed) (m : Machine) (history : List Item) (now : World) → MachineStands F m history now
+    → IsRound F m (map Go (range_with_len 0 (m.core.view 0).made))
 
 -- of any rounds, at most as many begin with a command in hand as steps were left, and 24,471 and two for each live id for
 -- each command that they give

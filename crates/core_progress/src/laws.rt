@@ -1,6 +1,6 @@
 ghost use Rattle.core_progress.specs.Laws.{ServedStepsAreBounded, CommandsTakeFewSteps, SeatsStepOrWait};
 ghost use Rattle.core_progress.specs.Laws.{SomeSeatCanStep, RoundsEndAllCommands, FairSchedulesEndAllCommands};
-ghost use Rattle.core_progress.specs.Laws.{BusyRoundsAreFew, EndedCommandsAreLogged};
+ghost use Rattle.core_progress.specs.Laws.{TurnsAreRounds, BusyRoundsAreFew, EndedCommandsAreLogged};
 
 /// Whatever calls are made of a machine that stands, in whatever order: the steps that are served, and those that are
 /// left after them, are at most those that were left before, and for each command that is given 24,471 and two for each
@@ -24,6 +24,11 @@ pub fn seats_step_or_wait()
 /// Where a seat has a command in hand, the next step of some seat with a command in hand is served.
 pub fn some_seat_can_step()
     ensures { SomeSeatCanStep }
+{}
+
+/// To let each seat go on once, in the order of their numbers, is a round.
+pub fn turns_are_rounds()
+    ensures { TurnsAreRounds }
 {}
 
 /// Of any rounds, one after another, at most as many begin with a command in hand as there were steps left, and 24,471
