@@ -1,0 +1,3 @@
+-- When moves come to their end.
+pub mod Progress
+pub mod Laws
