@@ -24,10 +24,13 @@ sum_by-same f g (x ∷ xs) same =
     let other = sum_by-cons g x xs in
     omega (arith, here, rest, one, other)
 
+abbrev weight : Bool → ℕ
+weight b = cond b 1 0
+
 count_by-same : (p q : ℕ → Bool) (ids : List ℕ) → ((id : ℕ) → Contains ids id → p id ≡ q id) → count_by p ids ≡ count_by q ids
 count_by-same p q [] same = refl
 count_by-same p q (id ∷ ids) same =
-    let here : cond (p id) 1 0 ≡ cond (q id) 1 0 = ap (λ b. cond b 1 0) (same id (Contains-append_left (id ∷ []) ids id (Contains-push [] id))) in
+    let here : ◌≡◌ {A = ℕ} (cond (p id) 1 0) (cond (q id) 1 0) = ap (λ (b : Bool). weight b) (same id (Contains-append_left (id ∷ []) ids id (Contains-push [] id))) in
     let rest = count_by-same p q ids (λ x has. same x (Contains-append_right (id ∷ []) ids x has)) in
     let one = sum_by-cons (λ (x : ℕ). cond (p x) 1 0) id ids in
     let other = sum_by-cons (λ (x : ℕ). cond (q x) 1 0) id ids in
@@ -35,17 +38,13 @@ count_by-same p q (id ∷ ids) same =
 
 -- ---- ids
 
-some-is : {X : Type 0} (o : Option X) → IsSome o → is_some o ≡ true
-some-is None some = absurd some
-some-is (Some x) some = refl
-
 -- an id that was got is that of an item exactly where it is 64 or above
 item-is : (map : MapView) (id : ℕ) → IsGot map id → nat_le 64 id ≡ is_some (delay_of map id)
 item-is map id (IsItem is) = by (nat_le 64 id) refl
   where
     by : (high : Bool) → nat_le 64 id ≡ high → nat_le 64 id ≡ is_some (delay_of map id)
-    by true e = e ∙ sym (some-is (delay_of map id) is)
-    by false e = absurd (rw e at is)
+    by true e = e ∙ sym is
+    by false e = let never : false ≡ true = rw e at is in cc
 item-is map id (IsHit shots low) =
     let below : nat_le 64 id ≡ false = grind (arith, nat_tests) in
     rw below refl

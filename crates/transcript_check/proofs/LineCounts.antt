@@ -36,6 +36,9 @@ use Rattle.transcript_check.specs.Verdicts.{IsRight, IsJudged}
 use Rattle.transcript_check.specs.Laws.{lines_beginning, RightOnesCountTheirLines}
 use Rattle.transcript_check.proofs.VerdictsOnOutputs.{same_frames}
 
+abbrev weight : Bool → ℕ
+weight b = cond b 1 0
+
 module _ (word : List ℕ) where
   -- the line begins with the word
   abbrev begins : OutLine → Bool
@@ -64,7 +67,7 @@ module _ (word : List ℕ) where
   count-none : {X : Type 0} (f : X → OutLine) (xs : List X) → ((x : X) → begins (f x) ≡ false) → count_in (map_list f xs) ≡ 0
   count-none f [] none = refl
   count-none f (x ∷ xs) none =
-      let here : cond (begins (f x)) 1 0 ≡ 0 = ap (λ b. cond b 1 0) (none x) in
+      let here : ◌≡◌ {A = ℕ} (cond (begins (f x)) 1 0) 0 = ap (λ (b : Bool). weight b) (none x) in
       let more = count-cons (f x) (map_list f xs) in
       let rest = count-none f xs none in
       omega (arith, here, more, rest)
@@ -72,7 +75,7 @@ module _ (word : List ℕ) where
   count-each : {X : Type 0} (f : X → OutLine) (xs : List X) → ((x : X) → begins (f x) ≡ true) → count_in (map_list f xs) ≡ length xs
   count-each f [] each = refl
   count-each f (x ∷ xs) each =
-      let here : cond (begins (f x)) 1 0 ≡ 1 = ap (λ b. cond b 1 0) (each x) in
+      let here : ◌≡◌ {A = ℕ} (cond (begins (f x)) 1 0) 1 = ap (λ (b : Bool). weight b) (each x) in
       let more = count-cons (f x) (map_list f xs) in
       let rest = count-each f xs each in
       omega (arith, here, more, rest)
@@ -96,7 +99,7 @@ dids-frame : (frame : ℕ) (lists : Lists) (journal : List Entry) (records : Lis
 dids-frame frame lists journal records =
     let word = codes "did " in
     let parts = count-frame word frame lists journal records in
-    let head : cond (begins word (FrameLine frame)) 1 0 ≡ 0 = refl in
+    let head : ◌≡◌ {A = ℕ} (cond (begins word (FrameLine frame)) 1 0) 0 = refl in
     let refused = count-none word no_line lists.refused (λ t. refl) in
     let joined = count-none word joined_line lists.joined (λ j. refl) in
     let done = count-each word did_line journal (λ e. refl) in
@@ -107,7 +110,7 @@ frames-frame : (frame : ℕ) (lists : Lists) (journal : List Entry) (records : L
 frames-frame frame lists journal records =
     let word = codes "frame " in
     let parts = count-frame word frame lists journal records in
-    let head : cond (begins word (FrameLine frame)) 1 0 ≡ 1 = refl in
+    let head : ◌≡◌ {A = ℕ} (cond (begins word (FrameLine frame)) 1 0) 1 = refl in
     let refused = count-none word no_line lists.refused (λ t. refl) in
     let joined = count-none word joined_line lists.joined (λ j. refl) in
     let done = count-none word did_line journal (λ e. refl) in

@@ -45,8 +45,8 @@ const FRAME_ALONE: &str =
 /// A line that is none of a recording's.
 const FAULTY: &str = "arena -131072 -131072 0 131072 131072 65536\nfrob\n";
 
-/// Room for what `make 7 32 600` writes, and for the output of its recording.
-const MANY_BYTES: usize = 40_000_000;
+/// Room for what `make 7 32 20` writes, and for the output of its recording.
+const MANY_BYTES: usize = 2_000_000;
 
 /// How many of them a read gives and a write takes.
 const MANY: usize = 65_536;
@@ -172,9 +172,9 @@ fn put_written(
 #[test]
 fn the_output_of_four_workers_is_right(rt: HostRuntime) -> Result<(), Fail> {
     let mut input = Vec::new(rt.alloc());
-    put_written(&rt, &["make", "7", "32", "600"], &mut input)?;
+    put_written(&rt, &["make", "7", "32", "20"], &mut input)?;
     put_written(&rt, &["play", "4"], &mut input)?;
     let mut source = MemSource::new(input.as_slice(), MANY, &[]);
-    expect_verdict(&rt, &mut source, (0, 0), "right frames 600 moves 19200\n")?;
+    expect_verdict(&rt, &mut source, (0, 0), "right frames 20 moves 640\n")?;
     Ok(())
 }
