@@ -73,27 +73,6 @@ continues r (Some bytes) (Some rest) es P reads h =
     let cut = subst (λ bs. IsCutAt r reads.lines bs rest) (sym reads.consumed) (cut_by_text r reads.lines reads.text rest reads.each reads.reached reads.spelled) in
     h bytes rest refl (continues_lines r reads.lines es bytes rest cut reads.reached reads.events)
 
--- an end without a line feed that is taken after what was read
-pub cut_end_after : (r s : Reading) (a b c : Option (List ℕ)) (es : List Event) → Reads r s a b es → is_over s.stage ≡ false → TakesCutEnd b c → TakesCutEnd a c
-cut_end_after r s a b c es reads going more =
-    let whole = whole_text r s reads.lines reads.text b reads.reached going reads.spelled in
-    let cut = more.cut in
-    record {
-      lines = reads.lines ++ more.lines;
-      text = unlines reads.lines ++ more.text;
-      each = each_of_both HasNoLineFeed reads.lines more.lines reads.each more.each;
-      cut = record {
-        front = reads.lines ++ cut.front;
-        last = cut.last;
-        lines_are = ap (λ ls. reads.lines ++ ls) cut.lines_are ∙ sym (append_assoc reads.lines cut.front (cut.last ∷ []));
-        text_is = ap (λ t. unlines reads.lines ++ t) cut.text_is ∙ sym (append_assoc (unlines reads.lines) (unlines cut.front) cut.last)
-            ∙ ap (λ t. t ++ cut.last) (sym (flat_map-append (λ line. line ++ 10 ∷ []) reads.lines cut.front));
-        is_the_end = cut.is_the_end;
-        at_end = cut.at_end;
-      };
-      consumed = Consumes-trans a b c (unlines reads.lines) more.text (subst (Consumes a b) whole reads.consumed) more.consumed;
-    }
-
 -- the map of the whole
 pub map_of-whole : (r : Reading) (es : List Event) (bytes rest : List ℕ) (arena : MapView) → Continues r es bytes rest → is_map_whole r.stage ≡ true → r.map ≡ Some arena
     → map_of bytes ≡ Some arena

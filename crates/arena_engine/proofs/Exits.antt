@@ -167,35 +167,3 @@ module _ (workers : ℕ) (arena : MapView) (r : Reading) (a b : Option (List ℕ
               (is_all_frames workers bytes arena (record { has = has; is_map = played.is_map }) (collected es).closed js (frames_of-all u es bytes [] so refl) played.run);
         };
       }
-
--- lines were taken, and then a refusal
-pub refusal_on : {S : Type 0} (last : S → ℕ) (s0 s1 s2 : S) (r : Reading) (a b l : Option (List ℕ)) (es : List Event) (n : ℕ) (pending buffered : List ℕ)
-    (same_then same at_end : Type 0) → Reads start r a b es → HasNotReadAhead s0 s1 (last s1) [] pending → (same_then → same)
-    → Refuses r b (ahead buffered l) n (HasNotReadAhead s1 s2 (last s2) pending buffered × same_then) at_end
-    → ReadsToRefusal s0 s2 (last s2) same at_end a l
-refusal_on last s0 s1 s2 r a b l es n pending buffered same_then same at_end reads needed same_end refuses =
-    let lines = reads.lines ++ refuses.lines in
-    let taken = whole_text start r reads.lines reads.text b reads.reached (going-before r refuses.lines refuses.going) reads.spelled in
-    let reached : after r refuses.lines ≡ after start lines =
-    ap (λ t. after t refuses.lines) reads.reached ∙ sym (run_of-append next events_of_line start reads.lines refuses.lines) in
-    let joined : unlines lines ++ refuses.last ≡ unlines reads.lines ++ (unlines refuses.lines ++ refuses.last) =
-    ap (λ bs. bs ++ refuses.last) (flat_map-append (λ line. line ++ 10 ∷ []) reads.lines refuses.lines)
-    ∙ append_assoc (unlines reads.lines) (unlines refuses.lines) refuses.last in
-    let c = ahead buffered l in
-    let Why : Reading → Type 0 = λ t.
-    ((IsRefusedLine t refuses.last ⊎ IsLongFront refuses.last) × (HasNotReadAhead s0 s2 (last s2) [] buffered × same)) ⊎ (IsLastPart refuses.last c × at_end) in
-    record {
-      lines = lines;
-      refused = refuses.last;
-      buffered = buffered;
-      each = each_of_both HasNoLineFeed reads.lines refuses.lines reads.each refuses.each;
-      consumed = subst (Consumes a c) (sym joined)
-          (Consumes-trans a b c (unlines reads.lines) (unlines refuses.lines ++ refuses.last) (subst (Consumes a b) taken reads.consumed) refuses.consumed);
-      going = ap (λ (t : Reading). is_over t.stage) (sym reached) ∙ refuses.going;
-      why = subst Why reached (why_on refuses.refused);
-    }
-  where
-    why_on : ((IsRefusedLine (after r refuses.lines) refuses.last ⊎ IsLongFront refuses.last) × (HasNotReadAhead s1 s2 (last s2) pending buffered × same_then)) ⊎ (IsLastPart refuses.last (ahead buffered l) × at_end)
-        → ((IsRefusedLine (after r refuses.lines) refuses.last ⊎ IsLongFront refuses.last) × (HasNotReadAhead s0 s2 (last s2) [] buffered × same)) ⊎ (IsLastPart refuses.last (ahead buffered l) × at_end)
-    why_on (inl (line, (more, at))) = inl (line, (HasNotReadAhead-trans last s0 s1 s2 [] pending buffered needed more, same_end at))
-    why_on (inr (last_part, at)) = inr (last_part, at)

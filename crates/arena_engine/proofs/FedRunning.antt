@@ -28,10 +28,9 @@ use Rattle.arena_engine.specs.FedGames.{Last, FedView, new_fed_game, Closing, Fe
 use Rattle.arena_engine.specs.Progress.{ReadsAsNeeded}
 use Rattle.arena_engine.specs.FedProgress.{FedProgress, FedRuns}
 use Rattle.arena_engine.specs.Output.{Writes, ReadsSome, ReadsToEnd, ReadsToRefusal, HasFedRoom}
-use Rattle.arena_engine.proofs.Exits.{refusal_on}
+use Rattle.demo_lines.proofs.Consumed.{refusal_on, cut_end_after}
 use Rattle.arena_engine.proofs.FedExits.{refused_on, fault_on}
 use Rattle.arena_engine.proofs.FedExits as exits
-use Rattle.arena_engine.proofs.Continuing.{cut_end_after}
 use Rattle.arena_engine.proofs.Playing.{not_over}
 use Rattle.arena_engine.proofs.FedPlaying.{is_ready, memory_on, cut_on, done_on, whole_on, played_on, text_so_far, fits_on, goes_on, begins}
 use Rattle.arena_engine.proofs.Running.{needed_going, fresh_is_open, read_fault_of, refused_of, no_memory_of, any_read_fault, map_is_given, end_is_end}
@@ -85,7 +84,7 @@ module _ (workers : ℕ) (demo : DemoReaderView) (a b t0 t1 : Option (List ℕ))
       let R : Reading → LineRefusal → Type 0 = λ r why. Refuses r b (ahead pending l) why.line P (ended s2 ≡ true) in
       let so_far = needed_going e (HasNotReadAhead s0 s1 (last s1) [] demo.pending × (ended s1 ≡ ended s0)) (TakesCutEnd a b) (ended s1 ≡ true) going unread.needed in
       refused_of d (R demo.reading) (λ _. ReadsToRefusal s0 s2 (last s2) (ended s2 ≡ ended s0) (ended s2 ≡ true) a l)
-      (λ why refuses. refusal_on last s0 s1 s2 runs.full a b l (runs.progress.events ++ e ∷ []) why.line demo.pending pending (ended s2 ≡ ended s1) (ended s2 ≡ ended s0) (ended s2 ≡ true)
+      (λ why refuses. refusal_on start last s0 s1 s2 runs.full a b l (runs.progress.events ++ e ∷ []) why.line demo.pending pending (ended s2 ≡ ended s1) (ended s2 ≡ ended s0) (ended s2 ≡ true)
       runs.progress.reads so_far.0 (λ same. same ∙ so_far.1)
       (Refuses-given runs.full map_is_whole b (ahead pending l) why.line P (ended s2 ≡ true) (subst (λ (r : Reading). R r why) runs.given refuses)))
       (h (reader_is_open going))

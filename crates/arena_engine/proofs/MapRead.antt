@@ -20,8 +20,8 @@ use Rattle.demo_lines.proofs.Joins.{Reads-trans}
 use Rattle.transcript_check.proofs.Recording.{map-there}
 use Rattle.arena_engine.specs.Games.{is_end}
 use Rattle.arena_engine.specs.MapReads.{GivesMap, GivesStop}
-use Rattle.arena_engine.proofs.Continuing.{continues, map_of-whole, cut_end_after}
-use Rattle.arena_engine.proofs.Exits.{refusal_on}
+use Rattle.arena_engine.proofs.Continuing.{continues, map_of-whole}
+use Rattle.demo_lines.proofs.Consumed.{refusal_on, cut_end_after}
 use Rattle.arena_engine.proofs.Running.{needed_going}
 use Rattle.arena_engine.proofs.Ended.{ReaderStops, ReaderGives}
 
@@ -140,7 +140,7 @@ module _ {S : Type 0} (s : sources.Ghosts S) where
         record {
           faulty = continues demo.reading (s.left first) b on.events (λ bytes. fault bytes ≡ Some why) on.reads
               (λ bytes rest is so. so.fault_is ∙ (subst (λ o. IfSome o (EndsAt demo.reading why)) is (stops.refused on.is_open)).fault);
-          read = refusal_on s.last first now next demo.reading (s.left first) b (s.left next) on.events line demo.pending demo'.pending (s.ended next ≡ s.ended now)
+          read = refusal_on start s.last first now next demo.reading (s.left first) b (s.left next) on.events line demo.pending demo'.pending (s.ended next ≡ s.ended now)
               (s.ended next ≡ s.ended first) (s.ended next ≡ true) on.reads on.needed (λ same. same ∙ on.same_end) (stops.taken on.is_open);
           reads = stops.uncounted_refusal ∙ on.same;
         }

@@ -1,11 +1,14 @@
 -- A recording and what follows it were read, and that was compared with the output of the recording.
-use Rattle.std.specs.Prelude.{◌≡◌, ◌≤◌, ◌⊎◌, ℕ, List, [], Option, Some, None, IfSome, IsSome, IsSomeAnd}
+use Rattle.std.specs.Prelude.{◌≡◌, ◌≤◌, ◌⊎◌, ℕ, true, List, [], Option, Some, None, IfSome, IsSome, IsSomeAnd}
 use Rattle.std.specs.Io.KnownBytes.{Appends}
 use Rattle.edge_io.specs.declared.source.Source as sources
 use Rattle.edge_io.specs.declared.sink.Sink as sinks
 use Rattle.edge_io.specs.Writes.{AppendsPart}
 use Rattle.demo_lines.specs.Bytes.{fault_within}
+use Rattle.demo_lines.specs.Consumed.{ReadsToRefusal}
+use Rattle.demo_lines.specs.Known.{start_within}
 use Rattle.transcript_check.specs.declared.verdict.Verdict.TheVariants.{Right, Wrong}
+use Rattle.transcript_check.specs.Looked.{TakesOutput, TakesFront, ReadsTranscript}
 use Rattle.transcript_check.specs.Verdicts.{IsJudged}
 use Rattle.arena_engine.specs.declared.checked.TheConstants.{MOST_CHECKED_FRAMES}
 use Rattle.arena_engine.specs.declared.report.Report.{Report}
@@ -29,11 +32,19 @@ pub record IsChecked {S K : Type 0} (s : sources.Ghosts S) (k : sinks.Ghosts K) 
   pub known : r.status ≤ 6
   -- the transcript is right, and the line that says so was written
   pub done : r.status ≡ 0 → FindsRight (s.left source) (Appends (k.taken sink) (k.taken sink'))
+  -- the recording and the output were read, and no more than the last read had to give
+  pub read : r.status ≡ 0 → ReadsTranscript s MOST_CHECKED_FRAMES source source' TakesOutput
   -- it is wrong, and the report has the first line of the first wrong piece
   pub wrong : r.status ≡ 6 → IfSome (s.left source) (IsJudged MOST_CHECKED_FRAMES (Wrong r.line))
+  -- the recording was read, and as many lines as an output may begin with, and then one line at most: no more than the
+  -- last read had to give
+  pub wrong_read : r.status ≡ 6 → ReadsTranscript s MOST_CHECKED_FRAMES source source' TakesFront
   -- the recording has a fault, and the report has that line and its fault
   pub refused : r.status ≡ 1
       → IfSome (s.left source) (λ bytes. fault_within MOST_CHECKED_FRAMES bytes ≡ Some (refusal_of r))
+  -- it was read to the faulty line, and no more than the last read had to give
+  pub refused_read : r.status ≡ 1 → ReadsToRefusal (start_within MOST_CHECKED_FRAMES) source source' (s.last source')
+      (s.ended source' ≡ s.ended source) (s.ended source' ≡ true) (s.left source) (s.left source')
   -- the transcript is right, and a proper part of the line was written
   pub cut : r.status ≡ 4 → FindsRight (s.left source) (AppendsPart (k.taken sink) (k.taken sink'))
   -- nothing was written

@@ -1,16 +1,15 @@
 -- What the top call reads from its source and writes to its sink.
-use Rattle.std.specs.Prelude.{◌≡◌, ℕ, ◌≤◌, ◌⊎◌, false, List, [], ◌++◌, length, Option}
+use Rattle.std.specs.Prelude.{◌≡◌, ℕ, ◌≤◌, false, List, [], ◌++◌, length, Option}
 use Rattle.std.specs.List.{AllByRecursion}
 use Rattle.std.specs.Io.KnownBytes.{Appends, Consumes}
 use Rattle.entity_recs.specs.declared.effect.Entry.{Entry}
 use Rattle.packet_read.specs.declared.arrival.Arrival.{Arrival}
 use Rattle.edge_io.specs.declared.line_reader.TheConstants.{LONGEST}
-use Rattle.edge_io.specs.Lines.{HasNoLineFeed, HasNotReadAhead, ahead}
-use Rattle.edge_io.specs.WholeLines.{all_but_last, unlines}
-use Rattle.demo_lines.specs.declared.stage.Stage.TheVariants.{Ended}
+use Rattle.edge_io.specs.Lines.{HasNoLineFeed}
+use Rattle.edge_io.specs.WholeLines.{unlines}
+use Rattle.demo_lines.specs.Consumed as consumed
 use Rattle.demo_lines.specs.Known.{start, is_over}
 use Rattle.demo_lines.specs.Recording.{after}
-use Rattle.demo_lines.specs.Reads.{IsTextOf, TakesCutEnd, IsRefusedLine, IsLongFront, IsLastPart}
 use Rattle.demo_lines.specs.Bytes.{map_of}
 use Rattle.out_text.specs.Collecting.{frames_of}
 use Rattle.out_text.specs.Output.{AreRightIn, AreInOrderIn, out_text}
@@ -35,37 +34,17 @@ pub record ReadsSome (Is : List ℕ → List ℕ → Type 0) (old new : Option (
   pub consumed : Consumes old new (unlines lines ++ front)
   pub frames : Writes taken_before taken (Is (unlines lines))
 
--- the lines of a recording were taken from the source up to its line `end`, each with its line feed, but for an `end`
--- that the input ends with. No more was read than the last read had to give and the input's end wasn't given in this
--- call (same_end), or such an `end` without a line feed was taken, and the input's end was given (at_end). old, new and
--- last are the source before and after, and how many bytes its last read gave
-pub record ReadsToEnd {S : Type 0} (old new : S) (last : ℕ) (same_end at_end : Type 0)
-    (left_before left : Option (List ℕ)) : Type 0 where
-  pub lines : List (List ℕ)
-  pub text : List ℕ
-  pub buffered : List ℕ
-  pub each : AllByRecursion HasNoLineFeed lines
-  pub spelled : IsTextOf lines text (ahead buffered left)
-  pub consumed : Consumes left_before (ahead buffered left) text
-  pub ended : (after start lines).stage ≡ Ended
-  pub going : is_over (after start (all_but_last lines)).stage ≡ false
-  pub needed : (HasNotReadAhead old new last [] buffered × same_end)
-      ⊎ (TakesCutEnd left_before (ahead buffered left) × at_end)
+-- the lines of a recording were taken from the source up to its line `end`
+abbrev pub ReadsToEnd : {S : Type 0} → (old new : S) → (last : ℕ) → (same_end at_end : Type 0)
+    → (left_before left : Option (List ℕ)) → Type 0
+ReadsToEnd old new last same_end at_end left_before left =
+    consumed.ReadsToEnd start old new last same_end at_end left_before left
 
--- lines were taken from the source that the recording goes on after, and then what is refused: a line or the front of
--- one, where no more was read than the last read had to give and the input's end wasn't given in this call (same_end),
--- or what the input ended with (at_end)
-pub record ReadsToRefusal {S : Type 0} (old new : S) (last : ℕ) (same_end at_end : Type 0)
-    (left_before left : Option (List ℕ)) : Type 0 where
-  pub lines : List (List ℕ)
-  pub refused : List ℕ
-  pub buffered : List ℕ
-  pub each : AllByRecursion HasNoLineFeed lines
-  pub consumed : Consumes left_before (ahead buffered left) (unlines lines ++ refused)
-  pub going : is_over (after start lines).stage ≡ false
-  pub why : ((IsRefusedLine (after start lines) refused ⊎ IsLongFront refused)
-      × (HasNotReadAhead old new last [] buffered × same_end))
-      ⊎ (IsLastPart refused (ahead buffered left) × at_end)
+-- lines were taken from the source, and then what is refused
+abbrev pub ReadsToRefusal : {S : Type 0} → (old new : S) → (last : ℕ) → (same_end at_end : Type 0)
+    → (left_before left : Option (List ℕ)) → Type 0
+ReadsToRefusal old new last same_end at_end left_before left =
+    consumed.ReadsToRefusal start old new last same_end at_end left_before left
 
 -- a sink with so much room can take the whole output of a recording, whichever right journals it has
 abbrev pub HasRoom : ℕ → List ℕ → ℕ → Type 0

@@ -26,3 +26,4 @@ pub mod Limits
 pub mod Continuing
 pub mod Counting
 pub mod Limited
+pub mod Consumed

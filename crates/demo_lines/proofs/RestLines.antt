@@ -1,13 +1,14 @@
 -- Parts of a line that follows a recording, read one after another.
-use Rattle.std.proofs.Common.{◌≡◌, ℕ, ◌≤◌, ◌<◌, ◌==◌, true, false, List, [], ◌∷◌, ◌++◌, length, Option, Some, None, IfSome, sym, ap, ◌∙◌, subst, append_assoc, length-append, arith}
+use Rattle.std.proofs.Common.{◌≡◌, ◌⊎◌, inl, inr, ℕ, ◌≤◌, ◌<◌, ◌==◌, Bool, true, false, List, [], ◌∷◌, ◌++◌, length, Option, Some, None, IfSome, refl, sym, ap, ◌∙◌, subst, append_assoc, append-nil, length-append, arith}
 use Rattle.std.specs.Io.KnownBytes.{Consumes, IsAtEnd, prepend_known}
-use Rattle.std.proofs.KnownBytes.{Consumes-trans}
-use Rattle.std.proofs.lemmas.List.Elements.{All-append, All-head, All-tail}
-use Rattle.edge_io.specs.Lines.{HasNoLineFeed, GivesLine, GivesLongFront, GivesLastPart, OnWhole, OnLong, OnEnded}
+use Rattle.std.proofs.KnownBytes.{Consumes-nil, Consumes-trans}
+use Rattle.std.proofs.lemmas.List.Elements.{All-nil, All-append, All-head, All-tail}
+use Rattle.edge_io.specs.Lines.{HasNoLineFeed, HasNotReadAhead, GivesLine, GivesLongFront, GivesLastPart, OnLine, OnWhole, OnLong, OnEnded}
+use Rattle.edge_io.proofs.ReadingAhead.{HasNotReadAhead-trans}
 use Rattle.edge_io.specs.declared.line_reader.NextLine.{NextLine}
 use Rattle.edge_io.specs.declared.line_reader.NextLine.TheVariants.{Whole, Long, Ended}
 use Rattle.demo_lines.specs.declared.rest.TheConstants.{LONGEST_REST}
-use Rattle.demo_lines.specs.Rest.{HasNoRestLine}
+use Rattle.demo_lines.specs.Rest.{HasNoRestLine, TakesLineAtMost}
 
 -- the front of a line was taken off what was ahead
 pub record TakesFront (old new : Option (List ℕ)) (front : List ℕ) : Type 0 where
@@ -82,3 +83,38 @@ part_taken Ended a b part pending whole long ended = record { left = b; consumed
 pub part_too_long : (a b : Option (List ℕ)) (front part : List ℕ) → TakesFront a b front → TakesPart b part → LONGEST_REST < length (front ++ part) → IfSome a HasNoRestLine
 part_too_long a b front part is takes long =
     too_long a takes.left (front ++ part) (longer_front a b takes.left front part is takes.consumed takes.one_line) long
+
+-- whatever was given after the front of a line, one line at most was taken, and no more was read than that needed
+module _ {S : Type 0} (last : S → ℕ) (ended : S → Bool) (first before after : S) (xs ys zs : List ℕ) (unread : HasNotReadAhead first before (last before) xs ys) (same : ended before ≡ ended first) where
+  pub at_most : (next : NextLine) (a b c : Option (List ℕ)) (front part : List ℕ) → TakesFront a b front → length front ≤ LONGEST_REST → OnWhole next (GivesLine b c part)
+      → OnLong next (GivesLongFront b c part) → OnEnded next (GivesLastPart b c part zs) → OnLine next (HasNotReadAhead before after (last after) ys zs)
+      → OnLine next (ended after ≡ ended before) → OnEnded next (ended after ≡ true)
+      → TakesLineAtMost a c (HasNotReadAhead first after (last after) xs zs × (ended after ≡ ended first)) (ended after ≡ true)
+  at_most Whole a b c front part is short whole long gone needed going told = record {
+    line = front ++ part;
+    feed = 10 ∷ [];
+    consumed = subst (Consumes a c) (sym (append_assoc front part (10 ∷ []))) (Consumes-trans a b c front (part ++ 10 ∷ []) is.consumed whole.consumed);
+    one_line = both_without front part is.one_line whole.one_line;
+    fits = (let both = length-append front part in let fits = whole.fits in omega (arith, both, fits, short));
+    ends = inl (inr refl, (HasNotReadAhead-trans last first before after xs ys zs unread needed, going ∙ same));
+  }
+  at_most Long a b c front part is short whole long gone needed going told = record {
+    line = front ++ part;
+    feed = [];
+    consumed = subst (Consumes a c) (sym (append-nil (front ++ part))) (Consumes-trans a b c front part is.consumed long.consumed);
+    one_line = both_without front part is.one_line long.one_line;
+    fits = (let both = length-append front part in let fits = long.long in omega (arith, both, fits, short));
+    ends = inl (inl refl, (HasNotReadAhead-trans last first before after xs ys zs unread needed, going ∙ same));
+  }
+  at_most Ended a b c front part is short whole long gone needed going told = record {
+    line = front ++ part;
+    feed = [];
+    consumed = subst (Consumes a c) (sym (append-nil (front ++ part))) (Consumes-trans a b c front part is.consumed gone.front.consumed);
+    one_line = both_without front part is.one_line gone.front.one_line;
+    fits = (let both = length-append front part in let fits = gone.front.fits in omega (arith, both, fits, short));
+    ends = inr (refl, gone.at_end, told);
+  }
+
+-- where nothing was taken
+pub none_taken : (a : Option (List ℕ)) (P Q : Type 0) → P → TakesLineAtMost a a P Q
+none_taken a P Q p = record { line = []; feed = []; consumed = Consumes-nil a; one_line = All-nil (λ b. (b == 10) ≡ false); fits = omega arith; ends = inl (inl refl, p) }

@@ -19,4 +19,5 @@ pub mod Spelling
 pub mod InTurn
 pub mod Reads
 pub mod Rest
+pub mod Consumed
 pub mod Laws

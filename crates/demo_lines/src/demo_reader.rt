@@ -196,7 +196,7 @@ impl DemoReader {
     ghost use Rattle.demo_lines.specs.Known.{is_map_whole, is_refused};
     ghost use Rattle.demo_lines.specs.Recording.{lines_left};
     ghost use Rattle.demo_lines.specs.Readings.{IsReading};
-    ghost use Rattle.demo_lines.specs.Rest.{HasRest, GivesRestLine, HasNoRestLine};
+    ghost use Rattle.demo_lines.specs.Rest.{HasRest, GivesRestLine, HasNoRestLine, TakesLineAtMost};
     ghost use Rattle.demo_lines.specs.Reads.{fresh_reader, fresh_within, map_taken, IsOpen, Reads, ReadsFront, ReadsQuietly};
     ghost use Rattle.demo_lines.specs.Reads.{TakesCutEnd, stop_at, Refuses, EndsAt, KeepsMap, OnRefused, OnReadFault};
     ghost use Rattle.demo_lines.specs.Reads.{OnNoMemory, stage_after};
@@ -331,8 +331,9 @@ impl DemoReader {
     ///
     /// `false` exactly where the input ends before a line feed, or the line has more than [`LONGEST_REST`] bytes; each
     /// later call then gives `false` again and reads nothing. Where the input ended with the recording, the first call
-    /// does so too. [`DemoStop::ReadFault`] first comes only where the source's
-    /// count of faults rose, and the count rises nowhere else; each later call then gives it again. It takes no memory.
+    /// does so too. No more is read than the line needs, or than shows that there is none. [`DemoStop::ReadFault`] first
+    /// comes only where the source's count of faults rose, and the count rises nowhere else; each later call then gives
+    /// it again. It takes no memory.
     pub fn rest<S: Source>(&mut self, source: &mut S, out: &mut RestBuf) -> Result<bool, DemoStop>
         requires over { self.old.reading.stage ≡ Stage.Ended }
         requires empty { out.old ≡ [] }
@@ -342,6 +343,14 @@ impl DemoReader {
             (ahead self.old.pending (S.left source.old)) (ahead self.new.pending (S.left source.new)) out.new)) }
         ensures none { HasRest self.old (ahead self.old.pending (S.left source.old)) → IfOk result (λ is. OnFalse is
             (IfSome (ahead self.old.pending (S.left source.old)) HasNoRestLine)) }
+
+        // No more was read than was needed.
+        ensures needed { IfOk result (λ is. OnTrue is
+            (HasNotReadAhead source.old source.new (S.last source.new) self.old.pending self.new.pending)) }
+        ensures taken { HasRest self.old (ahead self.old.pending (S.left source.old)) → IfOk result (λ is. OnFalse is (TakesLineAtMost
+            (ahead self.old.pending (S.left source.old)) (ahead self.new.pending (S.left source.new))
+            (HasNotReadAhead source.old source.new (S.last source.new) self.old.pending self.new.pending
+            × (S.ended source.new ≡ S.ended source.old)) (S.ended source.new ≡ true))) }
 
         // A read fault.
         ensures read_fault { HasRest self.old (ahead self.old.pending (S.left source.old)) → IfErr result (λ stop. stop ≡ DemoStop.ReadFault) }

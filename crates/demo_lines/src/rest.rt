@@ -1,8 +1,8 @@
-ghost use Rattle.std.specs.Prelude.{◌≡◌, ◌<◌, ◌≤◌, [], ◌++◌, length, IfOk, OnOk, OnErr, IfSome, IsOk};
+ghost use Rattle.std.specs.Prelude.{◌≡◌, ◌<◌, ◌≤◌, true, [], ◌++◌, length, IfOk, OnOk, OnErr, IfSome, IsOk};
 ghost use Rattle.std.specs.Bool.{OnTrue, OnFalse};
 ghost use Rattle.edge_io.specs.Counts.{HasRisen};
-ghost use Rattle.edge_io.specs.Lines.{ahead};
-ghost use Rattle.demo_lines.specs.Rest.{GivesRestLine, HasNoRestLine};
+ghost use Rattle.edge_io.specs.Lines.{ahead, HasNotReadAhead};
+ghost use Rattle.demo_lines.specs.Rest.{GivesRestLine, HasNoRestLine, TakesLineAtMost};
 
 use byte_lists::ByteBuf;
 use edge_io::{Failed, LineBuf, LineReader, NextLine, ROOM, Source};
@@ -40,6 +40,12 @@ pub(crate) fn next_rest<S: Source>(
         (GivesRestLine (ahead lines.old (S.left source.old)) (ahead lines.new (S.left source.new)) out.new)) }
     ensures none { IfOk result (λ is. OnFalse is
         (IfSome (ahead lines.old (S.left source.old)) HasNoRestLine)) }
+    ensures needed { IfOk result (λ is. OnTrue is
+        (HasNotReadAhead source.old source.new (S.last source.new) lines.old lines.new)) }
+    ensures taken { IfOk result (λ is. OnFalse is (TakesLineAtMost
+        (ahead lines.old (S.left source.old)) (ahead lines.new (S.left source.new))
+        (HasNotReadAhead source.old source.new (S.last source.new) lines.old lines.new
+        × (S.ended source.new ≡ S.ended source.old)) (S.ended source.new ≡ true))) }
     ensures before_end { IfOk result (λ is. OnTrue is (S.ended source.new ≡ S.ended source.old)) }
     ensures no_end { OnErr result (S.ended source.new ≡ S.ended source.old) }
     ensures later { S.faults source.old ≤ S.faults source.new }

@@ -9,3 +9,4 @@ pub mod Written
 pub mod LostPackets
 pub mod TotalsOfLines
 pub mod ScoresOfClients
+pub mod ItemsOfTheMap

@@ -20,7 +20,7 @@ use Rattle.out_text.specs.OutLines.{OutLine, FrameLine, FromLine, NoLine, Joined
 use Rattle.out_text.specs.FrameLines.{no_line, joined_line, did_line, to_line, to_lines, frame_lines, lines_with, run_lines}
 use Rattle.out_text.specs.PacketLines as packet_lines
 use Rattle.out_text.proofs.OneAnswer.{one_answer_each}
-use Rattle.match_play.specs.Totals.{items_in, joins_in, refused_in, receptions}
+use Rattle.match_play.specs.Totals.{items_among, items_in, joins_in, refused_in, receptions}
 use Rattle.match_play.specs.TotalsOfLines.{dids_in, frames_in, items_got}
 use Rattle.match_play.specs.Laws.{TotalsAreOfTheOutput}
 
@@ -114,7 +114,7 @@ frames_of_frame frame lists journal records =
 items_of_dids : (es : List Entry) → sum_by items_got (map_list did_of es) ≡ items_in es
 items_of_dids [] = refl
 items_of_dids (e ∷ es) =
-    let got : Entry → ℕ = λ (k : Entry). length k.reply.got in
+    let got : Entry → ℕ = λ (k : Entry). items_among k.reply.got in
     omega (arith, sum_by-cons items_got (did_of e) (map_list did_of es), sum_by-cons got e es, items_of_dids es)
 
 length-dids : (es : List Entry) → length (map_list did_of es) ≡ length es

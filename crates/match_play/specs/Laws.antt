@@ -1,8 +1,8 @@
 -- What holds of all matches.
-use Rattle.std.specs.Prelude.{◌≡◌, ℕ, ◌*◌, List, length, Some, sum_by}
+use Rattle.std.specs.Prelude.{◌≡◌, ℕ, ◌*◌, List, length, Some, is_some, sum_by, count_by}
 use Rattle.std.specs.List.{range_with_len}
 use Rattle.entity_recs.specs.declared.effect.Entry.{Entry}
-use Rattle.arena_map.specs.Maps.{MapView, IsMap}
+use Rattle.arena_map.specs.Maps.{MapView, IsMap, delay_of}
 use Rattle.packet_read.specs.declared.arrival.Arrival.{Arrival}
 use Rattle.plain_server.specs.RecordsById.{opening}
 use Rattle.plain_server.specs.Frames.{AreRight, journals_of, state_played}
@@ -77,3 +77,16 @@ ScoresAreOfTheClients =
     (map : MapView) (frames : List (List Arrival)) (journals : List (List Entry)) → IsMap map
     → (totals_of map frames journals).score
     ≡ sum_by (score_of_slot (state_played map 0 (opening map) frames journals)) (range_with_len 0 64)
+
+-- how many of these ids are those of items of a map: an item returns after some delay
+abbrev pub items_of : MapView → List ℕ → ℕ
+items_of map ids = count_by (λ id. is_some (delay_of map id)) ids
+
+-- with right journals the items of the totals are the items of the map among the ids that all entries got: a player that
+-- was hit isn't one, and each item that was taken is
+abbrev pub ItemsAreOfTheMap : Type 0
+ItemsAreOfTheMap =
+    (map : MapView) (frames : List (List Arrival)) (journals : List (List Entry)) → IsMap map
+    → AreRight map 0 (opening map) frames journals
+    → (totals_of map frames journals).items
+    ≡ sum_by (λ (j : List Entry). sum_by (λ (e : Entry). items_of map e.reply.got) j) journals

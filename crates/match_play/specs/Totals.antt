@@ -1,5 +1,5 @@
 -- What frames come to, in numbers.
-use Rattle.std.specs.Prelude.{ℕ, ◌+◌, ◌*◌, ◌≤◌, List, [], ◌∷◌, length, sum_by}
+use Rattle.std.specs.Prelude.{ℕ, ◌+◌, ◌*◌, ◌≤◌, nat_le, List, [], ◌∷◌, length, sum_by, count_by}
 use Rattle.entity_recs.specs.declared.effect.Entry.{Entry}
 use Rattle.arena_map.specs.Maps.{MapView}
 use Rattle.packet_read.specs.declared.arrival.Arrival.{Arrival}
@@ -13,9 +13,13 @@ use Rattle.match_play.specs.declared.totals.Totals.{Totals}
 
 -- ---- a frame
 
+-- how many of the ids that an entry got are those of items: the others, below 64, are slots of players that were hit
+abbrev pub items_among : List ℕ → ℕ
+items_among ids = count_by (λ id. nat_le 64 id) ids
+
 -- how many items the entries of a journal got
 abbrev pub items_in : List Entry → ℕ
-items_in journal = sum_by (λ (e : Entry). length e.reply.got) journal
+items_in journal = sum_by (λ (e : Entry). items_among e.reply.got) journal
 
 -- how many players joined, and how many packets were refused
 abbrev pub joins_in : Receiving → ℕ

@@ -1,5 +1,5 @@
 -- Totals, counted over the lines of an output and over the slots of a state.
-use Rattle.std.specs.Prelude.{◌≡◌, ℕ, List, [], ◌∷◌, length, sum_by, is_some, if◌then◌else◌}
+use Rattle.std.specs.Prelude.{◌≡◌, ℕ, List, [], ◌∷◌, nat_le, length, sum_by, count_by, is_some, if◌then◌else◌}
 use Rattle.world_tree.specs.Live.{record_at}
 use Rattle.client_ports.specs.Clients.{client_at}
 use Rattle.client_ports.specs.States.{State}
@@ -31,9 +31,9 @@ frames_in (DidLine did ∷ lines) = frames_in lines
 frames_in (ToLine slot bytes ∷ lines) = frames_in lines
 frames_in (EndLine frames ∷ lines) = frames_in lines
 
--- how many items a move got
+-- how many items a move got: the ids of 64 and above
 abbrev pub items_got : Did → ℕ
-items_got d = length d.got
+items_got d = count_by (λ id. nat_le 64 id) d.got
 
 -- the totals are those of lines: how many `frame`, `joined`, `did` and `no` lines there are, and how many items the
 -- `did` lines have

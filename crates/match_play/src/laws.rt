@@ -1,5 +1,5 @@
 ghost use Rattle.match_play.specs.Laws.{CountsAreKnown, OrderLeavesOneMatch, MatchesArePlayedAsWritten, LimitsAreKnown};
-ghost use Rattle.match_play.specs.Laws.{TotalsAreOfTheOutput, ScoresAreOfTheClients};
+ghost use Rattle.match_play.specs.Laws.{TotalsAreOfTheOutput, ScoresAreOfTheClients, ItemsAreOfTheMap};
 ghost use Rattle.match_play.specs.LostPackets.{LostPacketsLoseNoCommand};
 
 /// In a match of 1 to 64 players each player joins once and each of its moves is accepted, whichever right journals the
@@ -41,4 +41,10 @@ pub fn scores_are_of_the_clients()
 /// frames, each once and rising, and there are no others.
 pub fn lost_packets_lose_no_command()
     ensures { LostPacketsLoseNoCommand }
+{}
+
+/// The items of the totals are the items of the map among the ids that all entries got. Where players shoot, the slot of
+/// one that was hit isn't counted.
+pub fn items_are_of_the_map()
+    ensures { ItemsAreOfTheMap }
 {}

@@ -3,7 +3,7 @@
 
 pub use game::Game;
 pub use laws::{
-    counts_are_known, limits_are_known, lost_packets_lose_no_command,
+    counts_are_known, items_are_of_the_map, limits_are_known, lost_packets_lose_no_command,
     matches_are_played_as_written, order_leaves_one_match, scores_are_of_the_clients,
     totals_are_of_the_output,
 };

@@ -14,9 +14,9 @@ use Rattle.plain_server.specs.Frames.{state_after_tick, received_in, moved_by, s
 use Rattle.plain_server.proofs.Frames.{received_is, moved_by_is, state_after_is}
 use Rattle.demo_lines.specs.Reads.{DemoReaderView}
 use Rattle.out_text.specs.FrameLines.{lines_with}
-use Rattle.transcript_check.specs.Reading.{counted, Misses}
+use Rattle.transcript_check.specs.Reading.{counted, ReadsBeginning, Misses}
 use Rattle.transcript_check.specs.Checkers.{CheckerView, IsChecker}
-use Rattle.transcript_check.specs.Pieces.{ReadsJournal, HasNoJournal, TakesFrame}
+use Rattle.transcript_check.specs.Pieces.{ReadsJournal, HasNoJournal, AreOfJournal, TakesFrame}
 use Rattle.transcript_check.specs.Moves.{RunsFrame}
 use Rattle.transcript_check.proofs.Fewness.{lines-few}
 
@@ -45,6 +45,13 @@ module _ {S : Type 0} (s : sources.Ghosts S) (old new : S) (demo demo' : DemoRea
   frame-missed missed =
       subst (λ (u : CheckerView). Misses s old new demo (HasNoJournal (IsRightAfter u.map (received_in u.map u.frames u.state arrivals)) (lines_with u.map u.frames (received_in u.map u.frames u.state arrivals)))) view
       (subst (λ (q : Receiving). Misses s old new demo (HasNoJournal (IsRightAfter v.map q) (lines_with v.map v.frames q))) here.is missed)
+
+  -- its beginning was looked at
+  pub frame-looked : ReadsBeginning s (AreOfJournal (IsRightAfter v.map r) (lines_with v.map v.frames r)) old new demo demo'
+      → ReadsBeginning s (AreOfJournal (IsRightAfter t.map (received_in t.map t.frames t.state arrivals)) (lines_with t.map t.frames (received_in t.map t.frames t.state arrivals))) old new demo demo'
+  frame-looked begun =
+      subst (λ (u : CheckerView). ReadsBeginning s (AreOfJournal (IsRightAfter u.map (received_in u.map u.frames u.state arrivals)) (lines_with u.map u.frames (received_in u.map u.frames u.state arrivals))) old new demo demo') view
+      (subst (λ (q : Receiving). ReadsBeginning s (AreOfJournal (IsRightAfter v.map q) (lines_with v.map v.frames q)) old new demo demo') here.is begun)
 
   module _ (records' : List (Option Rec)) (count' : ℕ) (runs : RunsFrame s v.map v.frames r.lists old new demo demo' r.state.records records' v.count count') where
     moved-is : state_of r.state.clients records' ≡ moved_by v.map r runs.journal

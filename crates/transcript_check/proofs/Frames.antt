@@ -1,5 +1,5 @@
 -- The lines of a frame, read part by part.
-use Rattle.std.proofs.Common.{◌≡◌, ℕ, ◌+◌, List, ◌++◌, length, map, Option, sym, ap, ◌∙◌, subst, append_assoc, length-append, arith}
+use Rattle.std.proofs.Common.{◌≡◌, ℕ, ◌+◌, List, [], ◌++◌, append-nil, length, map, Option, sym, ap, ◌∙◌, subst, append_assoc, length-append, arith}
 use Rattle.std.proofs.lemmas.List.{length-map}
 use Rattle.edge_io.specs.declared.source.Source as sources
 use Rattle.entity_recs.specs.declared.rec.Rec.{Rec}
@@ -14,11 +14,11 @@ use Rattle.out_text.specs.FrameLines.{did_line, to_lines}
 use Rattle.out_text.specs.OutLines.{OutLine, text_of}
 use Rattle.out_text.specs.Transcripts.{BeginsWith}
 use Rattle.out_text.proofs.Runs.{text_of-append}
-use Rattle.transcript_check.specs.Reading.{counted, ahead_of, ReadsLines, Misses}
-use Rattle.transcript_check.specs.Pieces.{HasNoJournal, head_lines}
+use Rattle.transcript_check.specs.Reading.{counted, ahead_of, ReadsLines, ReadsBeginning, Misses}
+use Rattle.transcript_check.specs.Pieces.{HasNoJournal, AreOfJournal, head_lines}
 use Rattle.transcript_check.specs.Moves.{RunsMoves, moved_in, lines_among, RunsFrame}
 use Rattle.transcript_check.proofs.Texts.{begins-after, begins-front, if_some-weaker, if_some-both}
-use Rattle.transcript_check.proofs.ReadingOn.{reads-both, counted-both}
+use Rattle.transcript_check.proofs.ReadingOn.{reads-both, counted-both, looked-within, looked-after}
 use Rattle.transcript_check.proofs.MovesRead.{IsSplit, split-ahead}
 
 module _ {S : Type 0} (s : sources.Ghosts S) (map_view : MapView) (frame : ℕ) (lists : Lists) (records : List (Option Rec)) where
@@ -52,7 +52,24 @@ module _ {S : Type 0} (s : sources.Ghosts S) (map_view : MapView) (frame : ℕ) 
     uncounted = missed.uncounted;
   }
 
+  -- as much of it was looked at as there is before a right journal, and one line more at most
+  pub head-looked : (journal : List Entry) → Right journal → (a c : S) (d f : DemoReaderView) → ReadsBeginning s (λ ls. ls ≡ head) a c d f → ReadsBeginning s (AreOfJournal Right Lines) a c d f
+  head-looked journal right a c d f begun =
+      let later = map did_line journal ++ shown journal in
+      looked-within s a c d f (λ ls. ls ≡ head) (AreOfJournal Right Lines)
+      (λ ls is. record { after = later; holds = record { journal = journal; right = right; lines_are = ap (λ xs. xs ++ later) is ∙ sym (parts journal) } }) begun
+
   module _ (a b : S) (d e : DemoReaderView) (reads : ReadsLines s a b d e head) where
+    -- of the moves as many as a right journal begins with
+    pub moves-looked : (c : S) (f : DemoReaderView) → ReadsBeginning s (AreOfJournal Right (map did_line)) b c e f → ReadsBeginning s (AreOfJournal Right Lines) a c d f
+    moves-looked c f begun =
+        looked-after s a b c d e f (AreOfJournal Right (map did_line)) (AreOfJournal Right Lines) head reads
+        (λ ls is. record {
+          after = shown is.journal;
+          holds = record { journal = is.journal; right = is.right; lines_are = ap (λ xs. head ++ (xs ++ shown is.journal)) is.lines_are ∙ sym (parts is.journal) };
+        })
+        begun
+
     -- the moves are missed
     pub moves-missed : (c : S) → Misses s b c e (HasNoJournal Right (map did_line)) → Misses s a c d (HasNoJournal Right Lines)
     moves-missed c missed = record {
@@ -84,6 +101,17 @@ module _ {S : Type 0} (s : sources.Ghosts S) (map_view : MapView) (frame : ℕ) 
                 (ap (λ j. text_of (map did_line j) ++ text_of (shown j)) same ∙ ap (λ rs. dids ++ text_of (to_lines frame rs)) (sym runs.records_are)) here)));
             uncounted = missed.uncounted ∙ runs.reads.reads.on.uncounted ∙ reads.on.uncounted;
           }
+
+      -- of the snapshots some
+      pub replies-looked : (g : S) (h : DemoReaderView) → ReadsBeginning s (λ ls. ls ≡ to_lines frame records') c g f h → ReadsBeginning s (AreOfJournal Right Lines) a g d h
+      replies-looked g h begun =
+          let front = head ++ map did_line runs.journal in
+          looked-after s a c g d f h (λ ls. ls ≡ to_lines frame records') (AreOfJournal Right Lines) front (reads-both s a b c d e f head (map did_line runs.journal) reads runs.reads.reads)
+          (λ ls is. record {
+            after = [];
+            holds = record { journal = runs.journal; right = runs.reads.right; lines_are = ap (λ xs. front ++ xs) (append-nil ls ∙ is ∙ ap (to_lines frame) runs.records_are) };
+          })
+          begun
 
       -- all was read
       pub frame-read : (g : S) (h : DemoReaderView) (first last : ℕ) → ReadsLines s c g f h (to_lines frame records') → count ≡ counted first (length head) → last ≡ counted count' (length (to_lines frame records'))

@@ -1,5 +1,5 @@
 -- The frames of a transcript that were read so far, each with the one right journal whose lines are there.
-use Rattle.std.proofs.Common.{◌≡◌, ℕ, zero, suc, ◌+◌, ◌*◌, ◌≤◌, List, [], ◌∷◌, ◌++◌, length, take, drop, IfSome, refl, sym, ap, ◌∙◌, subst, add-zero, append-nil, arith, length-append, take-append-drop}
+use Rattle.std.proofs.Common.{◌≡◌, ℕ, true, append_assoc, zero, suc, ◌+◌, ◌*◌, ◌≤◌, List, [], ◌∷◌, ◌++◌, length, take, drop, IfSome, refl, sym, ap, ◌∙◌, subst, add-zero, append-nil, arith, length-append, take-append-drop}
 use Rattle.std.specs.Prelude.{⊤}
 use Rattle.edge_io.specs.declared.source.Source as sources
 use Rattle.entity_recs.specs.declared.effect.Entry.{Entry}
@@ -9,22 +9,24 @@ use Rattle.packet_read.specs.declared.arrival.Arrival.{Arrival}
 use Rattle.client_ports.specs.States.{State}
 use Rattle.client_ports.specs.Receiving.{Receiving}
 use Rattle.plain_server.specs.RecordsById.{opening}
-use Rattle.plain_server.specs.Frames.{received_in, state_after, state_played, IsRightAfter, AreRight}
+use Rattle.plain_server.specs.Frames.{received_in, state_after, state_played, journals_of, IsRightAfter, AreRight}
+use Rattle.plain_server.proofs.Frames as plain
 use Rattle.plain_server.proofs.Turns.{right_count}
 use Rattle.demo_lines.specs.Reads.{DemoReaderView}
 use Rattle.demo_lines.specs.Rest.{HasRest}
 use Rattle.out_text.specs.FrameLines.{lines_with, run_lines}
-use Rattle.out_text.specs.OutLines.{EndLine, printed, text_of}
+use Rattle.out_text.specs.OutLines.{OutLine, EndLine, printed, text_of}
 use Rattle.out_text.specs.Transcripts.{BeginsWith, run_moves, IsTranscript, HasRightPieces, IsWrongAfter}
-use Rattle.out_text.proofs.Runs.{run_lines-append, run_lines-push, state_played-push, right-push, right-split_last, right-take, text_of-append, next_number, same_taken}
+use Rattle.out_text.proofs.Runs.{run_lines-append, run_lines-push, state_played-push, right-append, right-push, right-split_last, right-take, text_of-append, next_number, same_taken}
 use Rattle.client_ports.specs.declared.received.TheConstants.{MOST_FRAME_MOVES}
-use Rattle.transcript_check.specs.Reading.{counted, ahead_of, ReadsLines, Misses}
+use Rattle.transcript_check.specs.Reading.{counted, ahead_of, IsNeeded, ReadsLines, ReadsOneAtMost, ReadsBeginning, Misses}
 use Rattle.transcript_check.specs.Checkers.{CheckerView, new_checker, IsChecker}
-use Rattle.transcript_check.specs.Pieces.{HasNoJournal, TakesFrame}
+use Rattle.transcript_check.specs.Pieces.{HasNoJournal, AreOfJournal, TakesFrame}
+use Rattle.transcript_check.specs.Looked.{AreOfOutput, TakesOutput}
 use Rattle.transcript_check.specs.Verdicts.{IsRight, IsWrongAt, IsVerdict}
 use Rattle.transcript_check.specs.declared.verdict.Verdict.TheVariants.{Right, Wrong}
 use Rattle.transcript_check.proofs.Texts.{text_of-one, begins-after, begins-front, if_some-over, if_some-all}
-use Rattle.transcript_check.proofs.ReadingOn.{counted-both, reads-none, reads-both}
+use Rattle.transcript_check.proofs.ReadingOn.{counted-both, reads-none, reads-both, IsWithin, looked-first, looked-after}
 
 -- the moves of one frame more
 run_moves-push : (map : MapView) (frame : ℕ) (s : State) (frames : List (List Arrival)) (arrivals : List Arrival) (js : List (List Entry)) (j : List Entry) → length js ≡ length frames
@@ -329,7 +331,61 @@ module _ {S : Type 0} (s : sources.Ghosts S) (map : MapView) where
               line_is = omega (arith, count);
             }
 
+    -- its beginning was looked at: so was that of an output of all frames
+    pub so-far-looked : (new : S) (demo'' : DemoReaderView) (more : List (List Arrival))
+        → ReadsBeginning s (AreOfJournal (IsRightAfter c.map (received_in c.map c.frames c.state arrivals)) (lines_with c.map c.frames (received_in c.map c.frames c.state arrivals))) now new demo' demo''
+        → ReadsBeginning s (AreOfOutput map (done ++ arrivals ∷ more)) old new demo demo''
+    so-far-looked new demo'' more begun =
+        let Next : CheckerView → List OutLine → Type 0 =
+        λ u. AreOfJournal (IsRightAfter u.map (received_in u.map u.frames u.state arrivals)) (lines_with u.map u.frames (received_in u.map u.frames u.state arrivals)) in
+        looked-after s old now new demo demo' demo'' (Next checker_after) (AreOfOutput map (done ++ arrivals ∷ more)) (run_lines map 0 (opening map) done so.journals) so.reads
+        (λ ls is. goes-on ls is) (subst (λ (u : CheckerView). ReadsBeginning s (Next u) now new demo' demo'') checker_is begun)
+      where
+        goes-on : (ls : List OutLine) → AreOfJournal (IsRightAfter map received_next) (lines_with map (0 + length done) received_next) ls
+            → IsWithin (AreOfOutput map (done ++ arrivals ∷ more)) (run_lines map 0 (opening map) done so.journals) ls
+        goes-on ls is =
+            let js = so.journals in
+            let j = is.journal in
+            let next = state_after map received_next j in
+            let ks = journals_of map (0 + length done + 1) next more in
+            let front = run_lines map 0 (opening map) done js in
+            let here = lines_with map (0 + length done) received_next j in
+            let rest = run_lines map (0 + length done + 1) next more ks in
+            let end = EndLine (length (done ++ arrivals ∷ more)) ∷ [] in
+            let both : run_lines map 0 (opening map) (done ++ arrivals ∷ more) (js ++ j ∷ ks) ≡ front ++ (here ++ rest) =
+            run_lines-append map 0 (opening map) done (arrivals ∷ more) js (j ∷ ks) (right_count map 0 (opening map) done js so.right) in
+            record {
+              after = rest ++ end;
+              holds = record {
+                journals = js ++ j ∷ ks;
+                right = right-append map 0 (opening map) done (arrivals ∷ more) js (j ∷ ks) so.right (is.right, plain.right_in_order map (0 + length done + 1) next more);
+                lines_are = ap (λ xs. front ++ (xs ++ (rest ++ end))) is.lines_are ∙ ap (λ xs. front ++ xs) (sym (append_assoc here rest end))
+                    ∙ sym (append_assoc front (here ++ rest) end) ∙ ap (λ xs. xs ++ end) (sym both);
+              };
+            }
+
   module _ (frames : List (List Arrival)) (old now : S) (demo demo' : DemoReaderView) (c : CheckerView) (so : FramesSoFar s map frames old now demo demo' c) where
+    -- of all frames, and then one line at most
+    pub end-looked : (new : S) (demo'' : DemoReaderView) → ReadsOneAtMost s now new demo' demo'' → ReadsBeginning s (AreOfOutput map frames) old new demo demo''
+    end-looked new demo'' one =
+        looked-first s old now new demo demo' demo'' (AreOfOutput map frames) (run_lines map 0 (opening map) frames so.journals) (EndLine (length frames) ∷ []) so.reads
+        (record { journals = so.journals; right = so.right; lines_are = refl }) one
+
+    -- the whole output was read, and no more
+    pub output-looked : (new : S) (demo'' : DemoReaderView) → ReadsLines s now new demo' demo'' (EndLine c.frames ∷ [])
+        → TakesOutput map frames (ahead_of s demo old) (ahead_of s demo'' new) (IsNeeded s old new demo demo'') (s.ended new ≡ true)
+    output-looked new demo'' reads =
+        let lines = run_lines map 0 (opening map) frames so.journals in
+        let count : c.frames ≡ length frames = (let f = so.frames_are in omega (arith, f)) in
+        let all : ReadsLines s old new demo demo'' (lines ++ EndLine (length frames) ∷ []) =
+        reads-both s old now new demo demo' demo'' lines (EndLine (length frames) ∷ []) so.reads (subst (λ n. ReadsLines s now new demo' demo'' (EndLine n ∷ [])) count reads) in
+        record {
+          lines = lines ++ EndLine (length frames) ∷ [];
+          whole = record { journals = so.journals; right = so.right; lines_are = refl };
+          read = all.consumed;
+          needed = (all.on.unread, all.on.before_end);
+        }
+
     -- all frames were read, and the last line too
     pub so-far-right : (new : S) (demo'' : DemoReaderView) → ReadsLines s now new demo' demo'' (EndLine c.frames ∷ []) → Misses s old new demo (λ bytes. IsRight map frames bytes c.frames c.moves)
     so-far-right new demo'' reads =
@@ -403,3 +459,27 @@ module _ {S : Type 0} (s : sources.Ghosts S) (map : MapView) (frames : List (Lis
       let right = so-far-right s map frames old now demo demo' c here new demo'' reads in
       subst (λ n. Misses s old new demo (λ bytes. IsRight map frames bytes n moves)) (sym counts)
       (subst (λ n. Misses s old new demo (λ bytes. IsRight map frames bytes c.frames n)) (sym moved) right)
+
+-- ---- what was looked at
+
+module _ {S : Type 0} (s : sources.Ghosts S) (map : MapView) (frames : List (List Arrival)) where
+  -- where the next frame is missed
+  pub wrong-looked : (done more : List (List Arrival)) (arrivals : List Arrival) → frames ≡ done ++ arrivals ∷ more → (old now new : S) (demo demo' demo'' : DemoReaderView) (c : CheckerView)
+      → FramesSoFar s map done old now demo demo' c
+      → ReadsBeginning s (AreOfJournal (IsRightAfter c.map (received_in c.map c.frames c.state arrivals)) (lines_with c.map c.frames (received_in c.map c.frames c.state arrivals))) now new demo' demo''
+      → ReadsBeginning s (AreOfOutput map frames) old new demo demo''
+  wrong-looked done more arrivals is old now new demo demo' demo'' c so begun =
+      subst (λ (fs : List (List Arrival)). ReadsBeginning s (AreOfOutput map fs) old new demo demo'') (sym is) (so-far-looked s map done old now demo demo' c so arrivals new demo'' more begun)
+
+  module _ (done : List (List Arrival)) (all : done ≡ frames) (old now new : S) (demo demo' demo'' : DemoReaderView) (c : CheckerView) (so : FramesSoFar s map done old now demo demo' c) where
+    here : FramesSoFar s map frames old now demo demo' c
+    here = subst (λ (fs : List (List Arrival)). FramesSoFar s map fs old now demo demo' c) all so
+
+    -- where the last line is
+    pub endless-looked : ReadsOneAtMost s now new demo' demo'' → ReadsBeginning s (AreOfOutput map frames) old new demo demo''
+    endless-looked one = end-looked s map frames old now demo demo' c here new demo'' one
+
+    -- where all is right
+    pub right-looked : ReadsLines s now new demo' demo'' (EndLine c.frames ∷ [])
+        → TakesOutput map frames (ahead_of s demo old) (ahead_of s demo'' new) (IsNeeded s old new demo demo'') (s.ended new ≡ true)
+    right-looked reads = output-looked s map frames old now demo demo' c here new demo'' reads

@@ -19,7 +19,8 @@ use Rattle.demo_lines.proofs.Ends.{after-over, events_of-over}
 use Rattle.out_text.specs.Collecting.{Frames, collected, frames_within}
 use Rattle.out_text.proofs.Fewness.{frames_are_few_of}
 use Rattle.out_text.proofs.SmallFrames.{IsSmallFrame, frames_are_small_of}
-use Rattle.transcript_check.specs.Reading.{ahead_of, Misses, ReadFails}
+use Rattle.transcript_check.specs.Reading.{ahead_of, IsNeeded, Misses, ReadFails}
+use Rattle.transcript_check.specs.Looked.{LooksAt}
 use Rattle.transcript_check.specs.Recorded.{ReadsRecording}
 use Rattle.transcript_check.specs.Verdicts.{IsShort, IsVerdict, IsJudged, Judges, StopsChecking}
 use Rattle.transcript_check.specs.declared.verdict.Verdict.{Verdict}
@@ -82,9 +83,32 @@ module _ {S : Type 0} (s : sources.Ghosts S) (limit : ℕ) (source source' : S) 
       subst (AllByRecursion IsShort) (ap (λ (f : Frames). f.closed) (sym here)) (short-frames (collected (events_of (start_within limit) read.reads.lines)).closed (frames_are_small_of limit read.reads.lines))
 
   -- a verdict on what follows is one on the whole
-  pub read-judged : (source'' : S) (demo' : DemoReaderView) (arena : MapView) (verdict : Verdict) → demo' ≡ map_taken demo → demo.reading.map ≡ Some arena
-      → Misses s source' source'' demo' (λ rest. IsVerdict arena frames.closed rest demo.reading.lines verdict) → Judges s limit source source'' verdict
-  read-judged source'' demo' arena verdict taken map_is missed = record {
+  pub read-judged : (source'' : S) (demo' demo'' : DemoReaderView) (arena : MapView) (verdict : Verdict) → demo' ≡ map_taken demo → demo.reading.map ≡ Some arena
+      → Misses s source' source'' demo' (λ rest. IsVerdict arena frames.closed rest demo.reading.lines verdict)
+      → LooksAt verdict arena frames.closed (ahead_of s demo' source') (ahead_of s demo'' source'') (IsNeeded s source' source'' demo' demo'') (s.ended source'' ≡ true)
+      → Judges s limit source source'' verdict
+  read-judged source'' demo' demo'' arena verdict taken map_is missed looks = record {
+    read = record {
+      between = source';
+      recording = record {
+        lines = read.reads.lines;
+        text = read.reads.text;
+        buffered = demo.pending;
+        each = read.reads.each;
+        spelled = read.reads.spelled;
+        consumed = read.reads.consumed;
+        ended = ap (λ (t : Reading). t.stage) (sym read.reads.reached) ∙ read.ended;
+        going = read.reads.going;
+        needed = read.needed;
+      };
+      map = arena;
+      map_is = ap (λ (t : Reading). t.map) (sym read.reads.reached) ∙ map_is;
+      buffered = demo''.pending;
+      looks = (let here : frames ≡ collected (events_of (start_within limit) read.reads.lines) = read.frames_are ∙ ap collected (sym read.reads.events) in
+          let Looks : DemoReaderView → Frames → Type 0 = λ d fs.
+          LooksAt verdict arena fs.closed (ahead_of s d source') (ahead_of s demo'' source'') (IsNeeded s source' source'' d demo'') (s.ended source'' ≡ true) in
+          subst (Looks (map_taken demo)) here (subst (λ (d : DemoReaderView). Looks d frames) taken looks));
+    };
     judged = judged limit demo.reading read.events arena frames verdict (s.left source) (ahead_of s demo source') read.reads read.frames_are read.ended map_is
         (subst (λ (d : DemoReaderView). IfSome (ahead_of s d source') (λ rest. IsVerdict arena frames.closed rest demo.reading.lines verdict)) taken missed.missed);
     reads = missed.uncounted ∙ read.uncounted;

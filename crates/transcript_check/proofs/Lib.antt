@@ -21,3 +21,4 @@ pub mod VerdictsOnOutputs
 pub mod OneEnd
 pub mod OneJournal
 pub mod OneVerdict
+pub mod LineCounts

@@ -26,13 +26,13 @@ use Rattle.out_text.proofs.Runs.{text_of-append}
 use Rattle.out_text.proofs.LinesRead as lines_read
 use Rattle.std.proofs.lemmas.Option.{same_Some}
 use Rattle.transcript_check.specs.declared.lines.Reported.{Reported}
-use Rattle.transcript_check.specs.Reading.{counted, ahead_of, ReadsLine, ReadsLines, Misses}
-use Rattle.transcript_check.specs.Pieces.{HasNoJournal}
+use Rattle.transcript_check.specs.Reading.{counted, ahead_of, ReadsLine, ReadsLines, ReadsOneAtMost, ReadsBeginning, Misses}
+use Rattle.transcript_check.specs.Pieces.{HasNoJournal, AreOfJournal}
 use Rattle.transcript_check.specs.Moves.{IsNextOf, move_line, IsReadable, IsNoMove, TakesMove, RunsMoves}
 use Rattle.transcript_check.proofs.Texts.{one_line, same_line, text_of-one, begins-after, begins-front, if_some-read, if_some-weaker, if_some-both, if_some-all}
-use Rattle.transcript_check.proofs.ReadingOn.{reads-none, reads-both, counted-both}
+use Rattle.transcript_check.proofs.ReadingOn.{reads-none, reads-both, counted-both, looked-first}
 use Rattle.transcript_check.proofs.InRange.{readable}
-use Rattle.transcript_check.proofs.Turns.{AreReady, IsRightFrom, right-none, right-empty, ready-next, right-cons, entry_there, begins-with_move, moved-next, next-has}
+use Rattle.transcript_check.proofs.Turns.{AreReady, IsRightFrom, right-none, right-empty, ready-next, right-cons, some-journal, entry_there, begins-with_move, moved-next, next-has}
 
 -- ---- one line
 
@@ -151,6 +151,19 @@ module _ {S : Type 0} (s : sources.Ghosts S) (map_view : MapView) (is_map : IsMa
     pub out_of : IfSome (ahead_of s demo old) (λ bytes. (journal : List Entry) → RightFirst journal → BeginsWith bytes (text_of (lines journal)) → GoesOnWith records pending front journal)
     pub count_is : count ≡ counted first (length front)
 
+  -- a right journal from its first place on is right
+  right-again : (journal : List Entry) → RightFirst journal → Right journal
+  right-again journal right = record { merge = right.merge; legal = legal_from_first (outcome_on map_view) (world_of start) (history_of moves journal) right.legal }
+
+  -- a right journal of all moves
+  pub record HasJournal : Type 0 where
+    pub journal : List Entry
+    pub right : Right journal
+
+  -- moves that are ready have one
+  pub some-right : AreReady map_view moves start moves → HasJournal
+  some-right ready = let some = some-journal map_view is_map moves 0 start moves ready in record { journal = some.journal; right = right-again some.journal some.right }
+
   pub so-far-first : (old : S) (demo : DemoReaderView) (first : ℕ) → HasRest demo (ahead_of s demo old) → AreReady map_view moves start moves → AllByRecursion HasSmallNumber moves → MovesSoFar old old demo demo start moves first first
   so-far-first old demo first may ready small = record {
     front = [];
@@ -180,7 +193,13 @@ module _ {S : Type 0} (s : sources.Ghosts S) (map_view : MapView) (is_map : IsMa
         (begins-after bytes left_bytes (text_of (lines front)) (printed (did_line e) ++ text_of (lines rest)) parts
         (subst (BeginsWith bytes) (ap (λ j. text_of (lines j)) is ∙ text-with front e rest) begins))
 
-    -- none of the next moves has its line there
+    -- after their lines one more at most was looked at
+    pub so-far-looked : (next : S) (demo'' : DemoReaderView) → ReadsOneAtMost s now next demo' demo'' → ReadsBeginning s (AreOfJournal Right lines) old next demo demo''
+    so-far-looked next demo'' one =
+        let rest = some-journal map_view is_map moves (length so.front) records pending so.ready in
+        looked-first s old now next demo demo' demo'' (AreOfJournal Right lines) (lines so.front) (lines rest.journal) so.reads
+        (record { journal = so.front ++ rest.journal; right = right-again (so.front ++ rest.journal) (so.into rest.journal rest.right); lines_are = sym (map-append did_line so.front rest.journal) }) one
+
     -- none of the next moves has its line there
     pub so-far-missed : (next : S) → pending ≢ [] → Misses s now next demo' (IsNoMove map_view records pending) → Misses s old next demo (HasNoJournal Right lines)
     so-far-missed next some missed =
@@ -273,7 +292,7 @@ module _ {S : Type 0} (s : sources.Ghosts S) (map_view : MapView) (is_map : IsMa
     so-far-done none = record {
       journal = so.front;
       reads = record {
-        right = right-of so.front (subst RightFirst (append-nil so.front) (so.into [] (subst (λ p. IsRightFrom map_view moves (length so.front) records p []) (sym none) (right-none map_view moves (length so.front) records))));
+        right = right-again so.front (subst RightFirst (append-nil so.front) (so.into [] (subst (λ p. IsRightFrom map_view moves (length so.front) records p []) (sym none) (right-none map_view moves (length so.front) records))));
         reads = so.reads;
         only = if_some-weaker (ahead_of s demo old) _ _ so.out_of (λ bytes goes other right begins. only-one other (goes other (first-of other right) begins));
       };
@@ -281,9 +300,6 @@ module _ {S : Type 0} (s : sources.Ghosts S) (map_view : MapView) (is_map : IsMa
       count_is = so.count_is;
     }
       where
-        right-of : (journal : List Entry) → RightFirst journal → Right journal
-        right-of journal right = record { merge = right.merge; legal = legal_from_first (outcome_on map_view) (world_of start) (history_of moves journal) right.legal }
-
         first-of : (journal : List Entry) → Right journal → RightFirst journal
         first-of journal right = record { merge = right.merge; legal = legal_at_first (outcome_on map_view) (world_of start) (history_of moves journal) right.legal }
 

@@ -8,6 +8,10 @@ pub if_ok-weaker : {A E : Type 0} (r : Result A E) (P Q : A → Type 0) → IfOk
 if_ok-weaker (Ok a) P Q p then = then a p
 if_ok-weaker (Err e) P Q p then = tt
 
+pub if_ok-both : {A E : Type 0} (r : Result A E) (P Q R : A → Type 0) → IfOk r P → IfOk r Q → ((a : A) → P a → Q a → R a) → IfOk r R
+if_ok-both (Ok a) P Q R p q then = then a p q
+if_ok-both (Err e) P Q R p q then = tt
+
 module _ {X : Type 0} (f : X → List Arrival) where
   take-one : (xs : List X) (n : ℕ) (d : X) → n < length xs → take (suc n) (map f xs) ≡ take n (map f xs) ++ f (get_or xs n d) ∷ []
   take-one [] n d inside = absurd (omega (arith, inside))

@@ -1,17 +1,19 @@
 -- Lines that are read or missed after others.
-use Rattle.std.proofs.Common.{◌≡◌, ℕ, zero, suc, ◌+◌, ◌-◌, ◌^◌, ◌≤◌, min, List, [], ◌∷◌, ◌++◌, length, refl, sym, ap, ◌∙◌, subst, arith, append_assoc, append-nil, length-append}
-use Rattle.std.specs.Io.KnownBytes.{Consumes}
+use Rattle.std.proofs.Common.{◌≡◌, ◌⊎◌, inl, inr, true, Option, ℕ, zero, suc, ◌+◌, ◌-◌, ◌^◌, ◌≤◌, min, List, [], ◌∷◌, ◌++◌, length, refl, sym, ap, ◌∙◌, subst, arith, append_assoc, append-nil, length-append}
+use Rattle.std.specs.Io.KnownBytes.{Consumes, IsAtEnd}
 use Rattle.std.proofs.KnownBytes.{Consumes-nil, Consumes-trans}
 use Rattle.edge_io.specs.declared.source.Source as sources
 use Rattle.edge_io.specs.Counts.{HasRisen}
+use Rattle.edge_io.specs.Lines.{HasNotReadAhead}
+use Rattle.edge_io.proofs.ReadingAhead.{HasNotReadAhead-same, HasNotReadAhead-trans}
 use Rattle.demo_lines.specs.declared.rest.TheConstants.{LONGEST_REST}
 use Rattle.demo_lines.specs.declared.demo_stop.DemoStop.{DemoStop}
 use Rattle.demo_lines.specs.Reads.{DemoReaderView}
-use Rattle.demo_lines.specs.Rest.{HasRest, HasNoRestLine}
+use Rattle.demo_lines.specs.Rest.{HasRest, HasNoRestLine, TakesLineAtMost}
 use Rattle.out_text.specs.OutLines.{OutLine, spelled, printed, text_of}
 use Rattle.out_text.specs.Transcripts.{BeginsWith}
 use Rattle.out_text.proofs.Runs.{text_of-append}
-use Rattle.transcript_check.specs.Reading.{counted, ahead_of, GoesOn, ReadsLine, ReadsLines, Misses, ReadFails}
+use Rattle.transcript_check.specs.Reading.{counted, ahead_of, IsNeeded, GoesOn, ReadsLine, ReadsLines, TakesBeginning, ReadsOneAtMost, ReadsBeginning, Misses, ReadFails}
 use Rattle.transcript_check.proofs.Texts.{missed-none, missed-other, missed-after, missed-front, missed-one}
 
 -- counts add up
@@ -24,13 +26,14 @@ counted-both n (suc a) (suc b) =
 
 module _ {S : Type 0} (s : sources.Ghosts S) where
   pub on-none : (old : S) (demo : DemoReaderView) → HasRest demo (ahead_of s demo old) → GoesOn s old old demo demo
-  on-none old demo may = record { may = may; same = refl; cut = refl; before_end = refl; uncounted = refl; keeps = λ sure. sure }
+  on-none old demo may = record { may = may; same = refl; cut = refl; unread = HasNotReadAhead-same s.last old demo.pending; before_end = refl; uncounted = refl; keeps = λ sure. sure }
 
   pub on-both : (a b c : S) (d e f : DemoReaderView) → GoesOn s a b d e → GoesOn s b c e f → GoesOn s a c d f
   on-both a b c d e f one more = record {
     may = more.may;
     same = more.same ∙ one.same;
     cut = more.cut ∙ one.cut;
+    unread = HasNotReadAhead-trans s.last a b c d.pending e.pending f.pending one.unread more.unread;
     before_end = more.before_end ∙ one.before_end;
     uncounted = more.uncounted ∙ one.uncounted;
     keeps = λ sure. more.keeps (one.keeps sure);
@@ -119,3 +122,84 @@ module _ {S : Type 0} (s : sources.Ghosts S) where
   pub some-count : (a b : S) (d e : DemoReaderView) (first count : ℕ) (all left : List OutLine) → left ≡ [] → ReadsSome s a b d e first count all left → count ≡ counted first (length all)
   some-count a b d e first count all left none some =
       some.count_is ∙ ap (λ ls. counted first (length ls)) (sym (some.all_are ∙ ap (λ ls. some.front ++ ls) none ∙ append-nil some.front))
+
+-- ---- what was looked at
+
+-- one line at most, for another reason
+pub at_most-weaker : (a b : Option (List ℕ)) (P R Q : Type 0) → TakesLineAtMost a b P Q → (P → R) → TakesLineAtMost a b R Q
+at_most-weaker a b P R Q one then = record { line = one.line; feed = one.feed; consumed = one.consumed; one_line = one.one_line; fits = one.fits; ends = by one.ends }
+  where
+    by : (((one.feed ≡ []) ⊎ (one.feed ≡ 10 ∷ [])) × P) ⊎ ((one.feed ≡ []) × IsAtEnd b × Q) → (((one.feed ≡ []) ⊎ (one.feed ≡ 10 ∷ [])) × R) ⊎ ((one.feed ≡ []) × IsAtEnd b × Q)
+    by (inl (fed, p)) = inl (fed, then p)
+    by (inr end) = inr end
+
+-- lines that are wanted go on after some that were read
+pub record IsWithin (Wanted : List OutLine → Type 0) (front more : List OutLine) : Type 0 where
+  pub after : List OutLine
+  pub holds : Wanted (front ++ (more ++ after))
+
+module _ {S : Type 0} (s : sources.Ghosts S) where
+  -- a line that was read is one line
+  pub looked-line : (a b : S) (d e : DemoReaderView) (given : List ℕ) → ReadsLine s a b d e given → ReadsOneAtMost s a b d e
+  looked-line a b d e given read = record {
+    line = given;
+    feed = 10 ∷ [];
+    consumed = read.gives.consumed;
+    one_line = read.gives.one_line;
+    fits = (let fits = read.gives.fits in omega (arith, fits));
+    ends = inl (inr refl, (read.on.unread, read.on.before_end));
+  }
+
+  needed-after : (a b c : S) (d e f : DemoReaderView) → GoesOn s a b d e → IsNeeded s b c e f → IsNeeded s a c d f
+  needed-after a b c d e f one more = (HasNotReadAhead-trans s.last a b c d.pending e.pending f.pending one.unread more.0, more.1 ∙ one.before_end)
+
+  -- one line at most, where these are wanted
+  pub looked-none : (a c : S) (d f : DemoReaderView) (W : List OutLine → Type 0) (more : List OutLine) → W more → ReadsOneAtMost s a c d f → ReadsBeginning s W a c d f
+  looked-none a c d f W more wanted one = record { front = []; more = more; wanted = wanted; left = ahead_of s d a; read = Consumes-nil (ahead_of s d a); last = one }
+
+  -- lines, and one more at most
+  pub looked-first : (a b c : S) (d e f : DemoReaderView) (W : List OutLine → Type 0) (front more : List OutLine) → ReadsLines s a b d e front → W (front ++ more) → ReadsOneAtMost s b c e f
+      → ReadsBeginning s W a c d f
+  looked-first a b c d e f W front more reads wanted one = record {
+    front = front;
+    more = more;
+    wanted = wanted;
+    left = ahead_of s e b;
+    read = reads.consumed;
+    last = at_most-weaker (ahead_of s e b) (ahead_of s f c) (IsNeeded s b c e f) (IsNeeded s a c d f) (s.ended c ≡ true) one (needed-after a b c d e f reads.on);
+  }
+
+  -- the beginning of lines that are part of others
+  pub looked-within : (a c : S) (d f : DemoReaderView) (W V : List OutLine → Type 0) → ((ls : List OutLine) → W ls → IsWithin V [] ls) → ReadsBeginning s W a c d f → ReadsBeginning s V a c d f
+  looked-within a c d f W V then begun =
+      let in_it = then (begun.front ++ begun.more) begun.wanted in
+      record {
+        front = begun.front;
+        more = begun.more ++ in_it.after;
+        wanted = subst V (append_assoc begun.front begun.more in_it.after) in_it.holds;
+        left = begun.left;
+        read = begun.read;
+        last = begun.last;
+      }
+
+  -- and after lines that were read
+  pub looked-after : (a b c : S) (d e f : DemoReaderView) (W V : List OutLine → Type 0) (xs : List OutLine) → ReadsLines s a b d e xs → ((ls : List OutLine) → W ls → IsWithin V xs ls)
+      → ReadsBeginning s W b c e f → ReadsBeginning s V a c d f
+  looked-after a b c d e f W V xs reads then begun =
+      let in_it = then (begun.front ++ begun.more) begun.wanted in
+      let joined : xs ++ ((begun.front ++ begun.more) ++ in_it.after) ≡ (xs ++ begun.front) ++ (begun.more ++ in_it.after) =
+      ap (λ ls. xs ++ ls) (append_assoc begun.front begun.more in_it.after) ∙ sym (append_assoc xs begun.front (begun.more ++ in_it.after)) in
+      record {
+        front = xs ++ begun.front;
+        more = begun.more ++ in_it.after;
+        wanted = subst V joined in_it.holds;
+        left = begun.left;
+        read = subst (Consumes (ahead_of s d a) begun.left) (sym (text_of-append xs begun.front))
+            (Consumes-trans (ahead_of s d a) (ahead_of s e b) begun.left (text_of xs) (text_of begun.front) reads.consumed begun.read);
+        last = at_most-weaker begun.left (ahead_of s f c) (IsNeeded s b c e f) (IsNeeded s a c d f) (s.ended c ≡ true) begun.last (needed-after a b c d e f reads.on);
+      }
+
+  -- the first of these lines, and one more at most
+  pub some-looked : (a b c : S) (d e f : DemoReaderView) (first count : ℕ) (all left : List OutLine) → ReadsSome s a b d e first count all left → ReadsOneAtMost s b c e f
+      → ReadsBeginning s (λ ls. ls ≡ all) a c d f
+  some-looked a b c d e f first count all left some one = looked-first a b c d e f (λ ls. ls ≡ all) some.front left some.reads (sym some.all_are) one

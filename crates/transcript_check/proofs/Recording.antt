@@ -4,6 +4,8 @@ use Rattle.std.proofs.KnownBytes.{Consumes-nil, prepend_known-nil}
 use Rattle.std.specs.Io.KnownBytes.{Consumes, IsAtEnd}
 use Rattle.edge_io.specs.declared.source.Source as sources
 use Rattle.edge_io.specs.Counts.{HasRisen}
+use Rattle.edge_io.specs.Lines.{HasNotReadAhead}
+use Rattle.edge_io.proofs.ReadingAhead.{HasNotReadAhead-same, HasNotReadAhead-trans}
 use Rattle.demo_lines.specs.declared.stage.Stage.TheVariants.{Ended}
 use Rattle.demo_lines.specs.declared.event.Event.{Event}
 use Rattle.demo_lines.specs.declared.event.Event.TheVariants.{Frame, From, End}
@@ -12,9 +14,10 @@ use Rattle.demo_lines.specs.declared.demo_stop.DemoStop.TheVariants as demo_stop
 use Rattle.demo_lines.specs.Known.{Reading, start_within, is_map_whole, is_over}
 use Rattle.demo_lines.specs.Bytes.{LineRefusal, fault_within}
 use Rattle.demo_lines.specs.Readings.{IsReading}
-use Rattle.demo_lines.specs.Reads.{DemoReaderView, fresh_within, IsOpen, Reads, EndsAt, KeepsMap, stage_after, OnRefused, OnReadFault, OnNoMemory}
+use Rattle.demo_lines.specs.Reads.{DemoReaderView, fresh_within, IsOpen, Reads, Refuses, TakesCutEnd, EndsAt, KeepsMap, stage_after, OnRefused, OnReadFault, OnNoMemory}
 use Rattle.demo_lines.proofs.Machines.{run_of-append}
 use Rattle.demo_lines.proofs.Joins.{Reads-trans}
+use Rattle.demo_lines.proofs.Consumed.{cut_end_after, refusal_on}
 use Rattle.demo_lines.proofs.Continuing.{continues}
 use Rattle.out_text.specs.Collecting.{Frames, collect, collected, no_frames}
 use Rattle.transcript_check.specs.Reading.{ahead_of}
@@ -51,6 +54,12 @@ abbrev TellsEnd : {S : Type 0} → sources.Ghosts S → (old new : DemoReaderVie
 TellsEnd s old new source source' e =
     ((new.cut ≡ old.cut) × (s.ended source' ≡ s.ended source)) ⊎ ((e ≡ End) × (new.cut ≡ true) × IsAtEnd (ahead_of s new source'))
 
+-- no more was read than the last read had to give, or the recording's end without its line feed was taken
+abbrev IsAsNeeded : {S : Type 0} → sources.Ghosts S → (old new : DemoReaderView) → (source source' : S) → Event → Type 0
+IsAsNeeded s old new source source' e =
+    (HasNotReadAhead source source' (s.last source') old.pending new.pending × (s.ended source' ≡ s.ended source))
+    ⊎ ((e ≡ End) × TakesCutEnd (ahead_of s old source) (ahead_of s new source') × (s.ended source' ≡ true))
+
 -- what a call of the reader says where it gives an event
 pub record ReaderGives {S : Type 0} (s : sources.Ghosts S) (old new : DemoReaderView) (source source' : S) (e : Event) : Type 0 where
   pub event : IsOpen old → Reads old.reading new.reading (ahead_of s old source) (ahead_of s new source') (e ∷ [])
@@ -60,11 +69,14 @@ pub record ReaderGives {S : Type 0} (s : sources.Ghosts S) (old new : DemoReader
   pub keeps : s.never_fails source → s.never_fails source'
   pub ok : new.stop ≡ None
   pub cut : IsOpen old → TellsEnd s old new source source' e
+  pub needed : IsOpen old → IsAsNeeded s old new source source' e
   pub holds : IsReading new.reading
 
 -- and where it stops
 pub record ReaderStops {S : Type 0} (s : sources.Ghosts S) (old new : DemoReaderView) (source source' : S) (d : DemoStop) : Type 0 where
   pub refused : IsOpen old → OnRefused d (λ why. IfSome (ahead_of s old source) (EndsAt old.reading why))
+  pub taken : IsOpen old → OnRefused d (λ why. Refuses old.reading (ahead_of s old source) (ahead_of s new source') why.line
+      (HasNotReadAhead source source' (s.last source') old.pending new.pending × (s.ended source' ≡ s.ended source)) (s.ended source' ≡ true))
   pub cause : IsOpen old → OnReadFault d (HasRisen (s.faults source) (s.faults source'))
   pub sure : IsOpen old → s.never_fails source → OnReadFault d ⊥
   pub no_end : OnReadFault d (s.ended source' ≡ s.ended source)
@@ -80,6 +92,7 @@ module _ {S : Type 0} (s : sources.Ghosts S) (limit : ℕ) where
     pub frames_are : frames ≡ collected events
     pub is_open : IsOpen demo
     pub not_cut : demo.cut ≡ false
+    pub unread : HasNotReadAhead first now (s.last now) [] demo.pending
     pub before_end : s.ended now ≡ s.ended first
     pub uncounted : s.faults now ≡ s.faults first
     pub keeps : s.never_fails first → s.never_fails now
@@ -102,6 +115,7 @@ module _ {S : Type 0} (s : sources.Ghosts S) (limit : ℕ) where
     frames_are = none;
     is_open = record { no_stop = refl; not_over = refl };
     not_cut = refl;
+    unread = HasNotReadAhead-same s.last source [];
     before_end = refl;
     uncounted = refl;
     keeps = λ sure. sure;
@@ -116,6 +130,13 @@ module _ {S : Type 0} (s : sources.Ghosts S) (limit : ℕ) where
       | inr told ↦ (let never : true ≡ false = sym (ap is_last told.0) ∙ going in cc)
     ]
 
+    -- nor is more read than the last read had to give
+    needed-going : (e : Event) → is_last e ≡ false → IsAsNeeded s demo demo' now next e → HasNotReadAhead now next (s.last next) demo.pending demo'.pending
+    needed-going e going needed = elim needed [
+      | inl same ↦ same.0
+      | inr told ↦ (let never : true ≡ false = sym (ap is_last told.0) ∙ going in cc)
+    ]
+
     -- an event was given, and it wasn't the end
     pub goes_on : (e : Event) (frames' : Frames) → ReaderGives s demo demo' now next e → frames' ≡ collect frames e → is_last e ≡ false → ReadsOn first next demo' frames'
     goes_on e frames' gives made going = record {
@@ -125,6 +146,7 @@ module _ {S : Type 0} (s : sources.Ghosts S) (limit : ℕ) where
       frames_are = collected-push on.events e frames frames' on.frames_are made;
       is_open = record { no_stop = gives.ok; not_over = ap is_over gives.stage ∙ going-stage e going };
       not_cut = (untold e going (gives.cut on.is_open)).0 ∙ on.not_cut;
+      unread = HasNotReadAhead-trans s.last first now next [] demo.pending demo'.pending on.unread (needed-going e going (gives.needed on.is_open));
       before_end = (untold e going (gives.cut on.is_open)).1 ∙ on.before_end;
       uncounted = gives.uncounted ∙ on.uncounted;
       keeps = λ sure. gives.keeps (on.keeps sure);
@@ -150,11 +172,18 @@ module _ {S : Type 0} (s : sources.Ghosts S) (limit : ℕ) where
         | inl same ↦ same.1 ∙ on.before_end
         | inr told ↦ (let never : true ≡ false = sym told.1 ∙ not_cut in cc)
       ];
+      needed = by_end (gives.needed on.is_open);
       map = map-there demo.reading demo'.reading on.map gives.map;
       holds = gives.holds;
       uncounted = gives.uncounted ∙ on.uncounted;
       keeps = λ sure. gives.keeps (on.keeps sure);
     }
+      where
+        by_end : IsAsNeeded s demo demo' now next e
+            → (HasNotReadAhead first next (s.last next) [] demo'.pending × (s.ended next ≡ s.ended first)) ⊎ (TakesCutEnd (s.left first) (ahead_of s demo' next) × (s.ended next ≡ true))
+        by_end (inl (needed, same)) = inl (HasNotReadAhead-trans s.last first now next [] demo.pending demo'.pending on.unread needed, same ∙ on.before_end)
+        by_end (inr (is, cut, at)) =
+            inr (cut_end_after (start_within limit) demo.reading (s.left first) (ahead_of s demo now) (ahead_of s demo' next) on.events on.reads on.is_open.not_over cut, at)
 
     -- the reader stopped
     pub stops : (d : DemoStop) → ReaderStops s demo demo' now next d → StopsChecking s limit first next d
@@ -163,6 +192,8 @@ module _ {S : Type 0} (s : sources.Ghosts S) (limit : ℕ) where
         record {
           faulty = continues (start_within limit) demo.reading (s.left first) (ahead_of s demo now) on.events (λ bytes. fault_within limit bytes ≡ Some why) on.reads
               (λ bytes rest is so. so.fault_is ∙ (subst (λ o. IfSome o (EndsAt demo.reading why)) is (given.refused on.is_open)).fault);
+          read = refusal_on (start_within limit) s.last first now next demo.reading (s.left first) (ahead_of s demo now) (s.left next) on.events line demo.pending demo'.pending (s.ended next ≡ s.ended now)
+              (s.ended next ≡ s.ended first) (s.ended next ≡ true) on.reads on.unread (λ same. same ∙ on.before_end) (given.taken on.is_open);
           reads = given.uncounted_refusal ∙ on.uncounted;
         }
     stops demo_stop.ReadFault given = record {

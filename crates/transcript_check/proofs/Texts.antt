@@ -125,6 +125,10 @@ pub on_false-weaker : (b : Bool) (P Q : Type 0) → OnFalse b P → (P → Q) �
 on_false-weaker true P Q p then = tt
 on_false-weaker false P Q p then = then p
 
+pub on_false-all : (b : Bool) (P : Type 0) → P → OnFalse b P
+on_false-all true P p = tt
+on_false-all false P p = p
+
 pub ok_false-weaker : {E : Type 0} (r : Result Bool E) (P Q : Type 0) → IfOk r (λ is. OnFalse is P) → (P → Q) → IfOk r (λ is. OnFalse is Q)
 ok_false-weaker (Ok b) P Q p then = on_false-weaker b P Q p then
 ok_false-weaker (Err e) P Q p then = tt

@@ -203,6 +203,19 @@ module _ (map_view : MapView) (is_map : IsMap map_view) (moves : List Command) w
       by_slot slot true own = rw own (ap (λ ns. c.seq ∷ ns) (right.merge.each slot) ∙ sym (sent-next slot pending c left next own))
       by_slot slot false own = rw own (right.merge.each slot ∙ sym (sent-other slot pending c left next own))
 
+  -- a right journal of the moves that are left, the first entry of which has this place
+  pub record HasJournalFrom (place : ℕ) (records : List (Option Rec)) (pending : List Command) : Type 0 where
+    pub journal : List Entry
+    pub right : IsRightFrom map_view moves place records pending journal
+
+  -- there is one: that of the order in which they are left
+  pub some-journal : (place : ℕ) (records : List (Option Rec)) (pending : List Command) → AreReady map_view moves records pending → HasJournalFrom place records pending
+  some-journal place records [] ready = record { journal = []; right = right-none map_view moves place records }
+  some-journal place records (c ∷ pending) ready =
+      let next : IsNextOf (c ∷ pending) c pending = record { before = []; after = pending; pending_is = refl; none = tt; left_is = refl } in
+      let rest = some-journal (place + 1) (records_after map_view records c) pending (ready-next records (c ∷ pending) c pending ready next) in
+      record { journal = entry_there place records c ∷ rest.journal; right = right-cons place records (c ∷ pending) c pending rest.journal ready next rest.right }
+
   -- the first entry of a right journal, and the rest of it
   pub record BeginsWithMove (place : ℕ) (records : List (Option Rec)) (pending : List Command) (journal : List Entry) : Type 0 where
     pub c : Command

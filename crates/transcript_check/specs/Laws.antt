@@ -1,5 +1,7 @@
 -- What holds of all transcripts.
-use Rattle.std.specs.Prelude.{◌≡◌, ℕ, ◌≤◌, List, Some, None}
+use Rattle.std.specs.Prelude.{◌≡◌, ℕ, ◌≤◌, nat_eq, List, Some, None, codes, count_by}
+use Rattle.std.specs.List.{starts_with}
+use Rattle.edge_io.specs.WholeLines.{whole_lines}
 use Rattle.arena_map.specs.declared.limits.TheConstants.{MOST_FRAMES}
 use Rattle.arena_map.specs.Maps.{MapView}
 use Rattle.packet_read.specs.declared.arrival.Arrival.{Arrival}
@@ -16,6 +18,16 @@ pub record BeginsWithOutput (workers : ℕ) (recording bytes : List ℕ) : Type 
   pub text : List ℕ
   pub output : IsOutput workers recording text
   pub begins : BeginsWith bytes text
+
+-- how many lines of a text begin with this word
+abbrev pub lines_beginning : List ℕ → List ℕ → ℕ
+lines_beginning word text = count_by (λ line. starts_with nat_eq line word) (whole_lines text)
+
+-- the bytes begin with an output of a recording, which has so many `frame` lines and so many `did` lines
+pub record BeginsWithLines (workers frames moves : ℕ) (recording bytes : List ℕ) : Type 0 where
+  pub begins : BeginsWithOutput workers recording bytes
+  pub frames_are : frames ≡ lines_beginning (codes "frame ") begins.text
+  pub moves_are : moves ≡ lines_beginning (codes "did ") begins.text
 
 -- no transcript is both right and wrong
 abbrev pub VerdictsExclude : Type 0
@@ -58,3 +70,10 @@ RecordingsEndOnce =
 abbrev pub VerdictsAreOne : Type 0
 VerdictsAreOne =
     (limit : ℕ) (bytes : List ℕ) (one other : Verdict) → IsJudged limit one bytes → IsJudged limit other bytes → one ≡ other
+
+-- the numbers of a transcript that was judged right are those of the `frame` lines and the `did` lines of the output that
+-- it begins with
+abbrev pub RightOnesCountTheirLines : Type 0
+RightOnesCountTheirLines =
+    (workers limit frames moves : ℕ) (bytes : List ℕ) (is : IsJudged limit (Right frames moves) bytes) → (workers ≡ 1 → ⊥)
+    → limit ≤ MOST_FRAMES → BeginsWithLines workers frames moves bytes is.rest

@@ -25,6 +25,12 @@ pub record ReadsJournal {S : Type 0} (s : sources.Ghosts S) (old new : S) (demo 
 abbrev pub HasNoJournal : (List Entry → Type 0) → (List Entry → List OutLine) → List ℕ → Type 0
 HasNoJournal Right lines bytes = (journal : List Entry) → Right journal → BeginsWith bytes (text_of (lines journal)) → ⊥
 
+-- these are the lines of a right journal
+pub record AreOfJournal (Right : List Entry → Type 0) (lines : List Entry → List OutLine) (these : List OutLine) : Type 0 where
+  pub journal : List Entry
+  pub right : Right journal
+  pub lines_are : these ≡ lines journal
+
 -- the lines of a frame before its moves
 abbrev pub head_lines : ℕ → Lists → List OutLine
 head_lines frame lists = FrameLine frame ∷ (map_list no_line lists.refused ++ map_list joined_line lists.joined)

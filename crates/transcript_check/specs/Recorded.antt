@@ -1,12 +1,13 @@
 -- A recording that was read to its end, with its frames.
-use Rattle.std.specs.Prelude.{◌≡◌, ℕ, Bool, true, false, List, IsSome}
+use Rattle.std.specs.Prelude.{◌≡◌, ◌⊎◌, ℕ, Bool, true, false, List, [], IsSome}
 use Rattle.edge_io.specs.declared.source.Source as sources
+use Rattle.edge_io.specs.Lines.{HasNotReadAhead}
 use Rattle.demo_lines.specs.declared.event.Event.{Event}
 use Rattle.demo_lines.specs.declared.event.Event.TheVariants.{Frame, From, End}
 use Rattle.demo_lines.specs.declared.stage.Stage.TheVariants.{Ended}
 use Rattle.demo_lines.specs.Known.{start_within}
 use Rattle.demo_lines.specs.Readings.{IsReading}
-use Rattle.demo_lines.specs.Reads.{DemoReaderView, Reads}
+use Rattle.demo_lines.specs.Reads.{DemoReaderView, Reads, TakesCutEnd}
 use Rattle.demo_lines.specs.Rest.{HasRest}
 use Rattle.out_text.specs.Collecting.{Frames, collected}
 use Rattle.transcript_check.specs.Reading.{ahead_of}
@@ -25,6 +26,8 @@ pub record ReadsRecording {S : Type 0} (s : sources.Ghosts S) (limit : ℕ) (sou
   pub ended : demo.reading.stage ≡ Ended
   pub may : HasRest demo (ahead_of s demo source')
   pub before_end : demo.cut ≡ false → s.ended source' ≡ s.ended source
+  pub needed : (HasNotReadAhead source source' (s.last source') [] demo.pending × (s.ended source' ≡ s.ended source))
+      ⊎ (TakesCutEnd (s.left source) (ahead_of s demo source') × (s.ended source' ≡ true))
   pub map : IsSome demo.reading.map
   pub holds : IsReading demo.reading
   pub uncounted : s.faults source' ≡ s.faults source

@@ -1,5 +1,5 @@
 -- What a recording and the transcript after it were found to be.
-use Rattle.std.specs.Prelude.{◌≡◌, ℕ, ◌+◌, ◌≤◌, false, List, ◌++◌, length, Some, None, IfSome}
+use Rattle.std.specs.Prelude.{◌≡◌, ℕ, ◌+◌, ◌≤◌, true, false, List, ◌++◌, length, Some, None, IfSome}
 use Rattle.std.specs.List.{AllByRecursion}
 use Rattle.edge_io.specs.Lines.{HasNoLineFeed}
 use Rattle.edge_io.specs.WholeLines.{all_but_last}
@@ -16,10 +16,12 @@ use Rattle.demo_lines.specs.Known.{start_within, is_over}
 use Rattle.demo_lines.specs.Bytes.{LineRefusal, fault_within, map_within}
 use Rattle.demo_lines.specs.Recording.{after}
 use Rattle.demo_lines.specs.Reads.{IsTextOf}
+use Rattle.demo_lines.specs.Consumed.{ReadsToRefusal}
 use Rattle.out_text.specs.Collecting.{frames_within}
 use Rattle.out_text.specs.Transcripts.{IsTranscript, IsWrongAfter, run_moves}
 use Rattle.transcript_check.specs.declared.verdict.Verdict.{Verdict}
 use Rattle.transcript_check.specs.declared.verdict.Verdict.TheVariants.{Right, Wrong}
+use Rattle.transcript_check.specs.Looked.{LooksAt, ReadsTranscript}
 
 -- the packets of a frame of a recording are few
 abbrev pub IsShort : List Arrival → Type 0
@@ -71,11 +73,14 @@ module _ {S : Type 0} (s : sources.Ghosts S) (limit : ℕ) (source source' : S) 
   -- the transcript has this verdict
   pub record Judges (verdict : Verdict) : Type 0 where
     pub judged : IfSome (s.left source) (IsJudged limit verdict)
+    pub read : ReadsTranscript s limit source source' (LooksAt verdict)
     pub reads : s.faults source' ≡ s.faults source
 
   -- a line of the recording was refused
   pub record RefusesRecording (why : LineRefusal) : Type 0 where
     pub faulty : IfSome (s.left source) (λ bytes. fault_within limit bytes ≡ Some why)
+    pub read : ReadsToRefusal (start_within limit) source source' (s.last source') (s.ended source' ≡ s.ended source)
+        (s.ended source' ≡ true) (s.left source) (s.left source')
     pub reads : s.faults source' ≡ s.faults source
 
   -- the source failed, before it told its end

@@ -16,9 +16,10 @@ ghost use Rattle.out_text.specs.Printing.{line_of};
 ghost use Rattle.out_text.specs.Ranges.{HasRoom};
 ghost use Rattle.out_text.specs.Transcripts.{BeginsWith};
 ghost use Rattle.transcript_check.specs.Reading.{counted, ahead_of, ReadsLines, Misses, ReadFails};
+ghost use Rattle.transcript_check.specs.Reading.{ReadsOneAtMost, ReadsBeginning};
 ghost use Rattle.transcript_check.specs.Moves as specs;
 ghost use Rattle.transcript_check.specs.Moves.{IsNoMove, TakesMove, RunsMoves, lines_among, RunsFrame};
-ghost use Rattle.transcript_check.specs.Pieces.{HasNoJournal, head_lines};
+ghost use Rattle.transcript_check.specs.Pieces.{HasNoJournal, AreOfJournal, head_lines};
 
 use crate::lines::Lines;
 use crate::mover::Mover;
@@ -102,6 +103,8 @@ fn expect_move<S: Source>(
         reader.new world.old.records world.new.records pending.old pending.new)) }
     ensures missed { IfOk result (λ is. OnFalse is (Misses S.Source source.old source.new reader.old
         (IsNoMove (map_in mover.old.action) world.old.records pending.old))) }
+    ensures looked { IfOk result (λ is. OnFalse is
+        (ReadsOneAtMost S.Source source.old source.new reader.old reader.new)) }
     ensures count { IfOk result (λ is. OnTrue is (lines.new.count ≡ counted lines.old.count 1)) }
     ensures err { IfErr result (ReadFails S.Source source.old source.new reader.old) }
     ensures action { mover.new.action ≡ mover.old.action }
@@ -132,6 +135,9 @@ fn expect_moves<S: Source>(
         reader.new world.old.records world.new.records pending.old lines.old.count lines.new.count)) }
     ensures missed { IfOk result (λ is. OnFalse is (Misses S.Source source.old source.new reader.old (HasNoJournal
         (IsRight (outcome_on (map_in mover.old.action)) (world_of world.old.records) pending.old) (map did_line)))) }
+    ensures looked { IfOk result (λ is. OnFalse is (ReadsBeginning S.Source (AreOfJournal
+        (IsRight (outcome_on (map_in mover.old.action)) (world_of world.old.records) pending.old) (map did_line))
+        source.old source.new reader.old reader.new)) }
     ensures err { IfErr result (ReadFails S.Source source.old source.new reader.old) }
     ensures action { mover.new.action ≡ mover.old.action }
 {
@@ -157,6 +163,8 @@ fn expect_head<S: Source>(
         (head_lines frame received.now.lists))) }
     ensures missed { IfOk result (λ is. OnFalse is (Misses S.Source source.old source.new reader.old
         (λ bytes. BeginsWith bytes (text_of (head_lines frame received.now.lists)) → ⊥))) }
+    ensures looked { IfOk result (λ is. OnFalse is (ReadsBeginning S.Source
+        (λ lines. lines ≡ head_lines frame received.now.lists) source.old source.new reader.old reader.new)) }
     ensures count { IfOk result (λ is. OnTrue is
         (lines.new.count ≡ counted lines.old.count (length (head_lines frame received.now.lists)))) }
     ensures err { IfErr result (ReadFails S.Source source.old source.new reader.old) }
@@ -193,6 +201,10 @@ fn expect_lines<S: Source>(
     ensures missed { IfOk result (λ is. OnFalse is (Misses S.Source source.old source.new reader.old (HasNoJournal
         (IsRight (outcome_on (map_in mover.old.action)) (world_of world.old.records) received.now.lists.moves)
         (lines_among (map_in mover.old.action) frame world.old.records received.now.lists)))) }
+    ensures looked { IfOk result (λ is. OnFalse is (ReadsBeginning S.Source (AreOfJournal
+        (IsRight (outcome_on (map_in mover.old.action)) (world_of world.old.records) received.now.lists.moves)
+        (lines_among (map_in mover.old.action) frame world.old.records received.now.lists))
+        source.old source.new reader.old reader.new)) }
     ensures err { IfErr result (ReadFails S.Source source.old source.new reader.old) }
     ensures action { mover.new.action ≡ mover.old.action }
 {
@@ -254,9 +266,9 @@ impl Checker {
     ghost use Rattle.out_text.specs.OutLines.{EndLine, printed};
     ghost use Rattle.out_text.specs.Transcripts.{BeginsWith};
     ghost use Rattle.client_ports.specs.declared.received.TheConstants.{MOST_FRAME_MOVES};
-    ghost use Rattle.transcript_check.specs.Reading.{ahead_of, ReadsLines, Misses, ReadFails};
+    ghost use Rattle.transcript_check.specs.Reading.{ahead_of, ReadsLines, ReadsOneAtMost, ReadsBeginning, Misses, ReadFails};
     ghost use Rattle.transcript_check.specs.Checkers.{new_checker, IsChecker};
-    ghost use Rattle.transcript_check.specs.Pieces.{HasNoJournal, TakesFrame};
+    ghost use Rattle.transcript_check.specs.Pieces.{HasNoJournal, AreOfJournal, TakesFrame};
 
     /// A server in this arena, before the first frame. It takes all memory that checking needs. The only error is that
     /// memory is refused; the map is then gone.
@@ -319,6 +331,11 @@ impl Checker {
             (IsRightAfter self.old.map (received_in self.old.map self.old.frames self.old.state arrivals.now))
             (lines_with self.old.map self.old.frames
             (received_in self.old.map self.old.frames self.old.state arrivals.now))))) }
+        ensures looked { IfOk result (λ is. OnFalse is (ReadsBeginning S.Source (AreOfJournal
+            (IsRightAfter self.old.map (received_in self.old.map self.old.frames self.old.state arrivals.now))
+            (lines_with self.old.map self.old.frames
+            (received_in self.old.map self.old.frames self.old.state arrivals.now)))
+            source.old source.new reader.old reader.new)) }
         ensures err { IfErr result (ReadFails S.Source source.old source.new reader.old) }
     {
         self.received.clear();
@@ -359,6 +376,8 @@ impl Checker {
             (EndLine self.old.frames ∷ []))) }
         ensures missed { IfOk result (λ is. OnFalse is (Misses S.Source source.old source.new reader.old
             (λ bytes. BeginsWith bytes (printed (EndLine self.old.frames)) → ⊥))) }
+        ensures looked { IfOk result (λ is. OnFalse is
+            (ReadsOneAtMost S.Source source.old source.new reader.old reader.new)) }
         ensures err { IfErr result (ReadFails S.Source source.old source.new reader.old) }
         ensures frames { self.new.frames ≡ self.old.frames }
         ensures moves { self.new.moves ≡ self.old.moves }

@@ -1,10 +1,11 @@
-ghost use Rattle.std.specs.Prelude.{◌≡◌, ◌<◌, ◌≤◌, ◌^◌, length, map, IfOk, IfErr};
+ghost use Rattle.std.specs.Prelude.{◌≡◌, ◌<◌, ◌≤◌, ◌^◌, true, length, map, IfOk, IfErr};
 ghost use Rattle.std.specs.List.{AllByRecursion};
 ghost use Rattle.arena_map.specs.declared.limits.TheConstants.{MOST_FRAMES};
 ghost use Rattle.demo_lines.specs.declared.stage.Stage.TheVariants.{Ended};
 ghost use Rattle.demo_lines.specs.Reads.{fresh_within};
 ghost use Rattle.demo_lines.specs.Rest.{HasRest};
-ghost use Rattle.transcript_check.specs.Reading.{ahead_of, Misses, ReadFails};
+ghost use Rattle.transcript_check.specs.Reading.{ahead_of, IsNeeded, Misses, ReadFails};
+ghost use Rattle.transcript_check.specs.Looked.{LooksAt};
 ghost use Rattle.transcript_check.specs.Checkers.{new_checker, IsChecker};
 ghost use Rattle.transcript_check.specs.Verdicts.{IsShort, IsVerdict, Judges, StopsChecking};
 
@@ -33,6 +34,9 @@ fn compare<S: Source>(
     requires may { HasRest reader.old (ahead_of S.Source reader.old source.old) }
     ensures ok { IfOk result (λ verdict. Misses S.Source source.old source.new reader.old (λ bytes.
         IsVerdict checker.old.map (map (λ arrivals. arrivals.items) frames.now) bytes before verdict)) }
+    ensures looked { IfOk result (λ verdict. LooksAt verdict checker.old.map (map (λ arrivals. arrivals.items) frames.now)
+        (ahead_of S.Source reader.old source.old) (ahead_of S.Source reader.new source.new)
+        (IsNeeded S.Source source.old source.new reader.old reader.new) (S.ended source.new ≡ true)) }
     ensures err { IfErr result (ReadFails S.Source source.old source.new reader.old) }
 {
     for arrivals in frames {
@@ -57,7 +61,8 @@ fn compare<S: Source>(
 /// [`Verdict::Right`] comes exactly where what follows begins with an output that a plain server gives for the recording
 /// with some order of each frame's moves in which each player's are in the order sent. Where it doesn't,
 /// [`Verdict::Wrong`] has the first line of the first piece that is wrong. What follows the last line of the output isn't
-/// looked at.
+/// looked at, nor what follows the first line that no right output goes on with: no more is read than the block that the
+/// last line ends in.
 pub fn check<S: Source>(
     alloc: Global,
     reader: &mut DemoReader,

@@ -1,5 +1,5 @@
 ghost use Rattle.transcript_check.specs.Laws.{VerdictsExclude, OutputsAreRight, RightOnesAreOutputs, VerdictsAreOnOutputs};
-ghost use Rattle.transcript_check.specs.Laws.{RecordingsEndOnce, VerdictsAreOne};
+ghost use Rattle.transcript_check.specs.Laws.{RecordingsEndOnce, VerdictsAreOne, RightOnesCountTheirLines};
 
 /// No transcript is both right and wrong: where a verdict was given, a right transcript was called right and a wrong one
 /// wrong.
@@ -33,4 +33,10 @@ pub fn recordings_end_once()
 /// `Wrong` with the same line.
 pub fn verdicts_are_one()
     ensures { VerdictsAreOne }
+{}
+
+/// The numbers of a transcript that was judged right are counted off it: it begins with an output of the recording that
+/// has so many lines that begin with `frame `, and so many that begin with `did `.
+pub fn right_ones_count_their_lines()
+    ensures { RightOnesCountTheirLines }
 {}

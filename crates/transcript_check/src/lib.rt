@@ -3,8 +3,8 @@
 
 pub use checking::check;
 pub use laws::{
-    outputs_are_right, recordings_end_once, right_ones_are_outputs, verdicts_are_on_outputs,
-    verdicts_are_one, verdicts_exclude_each_other,
+    outputs_are_right, recordings_end_once, right_ones_are_outputs, right_ones_count_their_lines,
+    verdicts_are_on_outputs, verdicts_are_one, verdicts_exclude_each_other,
 };
 pub use verdict::Verdict;
 

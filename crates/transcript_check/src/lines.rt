@@ -14,6 +14,7 @@ ghost use Rattle.out_text.specs.Printing.{line_of};
 ghost use Rattle.out_text.specs.Ranges.{HasRoom, IsDidInRange};
 ghost use Rattle.out_text.specs.Transcripts.{BeginsWith};
 ghost use Rattle.transcript_check.specs.Reading.{counted, ahead_of, ReadsLine, ReadsLines, Misses, ReadFails};
+ghost use Rattle.transcript_check.specs.Reading.{ReadsOneAtMost, ReadsBeginning};
 
 use demo_lines::{DemoReader, DemoStop, RestBuf};
 use edge_io::{LineBuf, Source};
@@ -94,6 +95,8 @@ impl Lines {
             (ReadsLine S.Source source.old source.new reader.old reader.new self.new.given)) }
         ensures none { IfOk result (λ is. OnFalse is
             (Misses S.Source source.old source.new reader.old HasNoRestLine)) }
+        ensures looked { IfOk result (λ is. OnFalse is
+            (ReadsOneAtMost S.Source source.old source.new reader.old reader.new)) }
         ensures count { IfOk result (λ is. OnTrue is (self.new.count ≡ counted self.old.count 1)) }
         ensures wanted { self.new.wanted ≡ self.old.wanted }
         ensures err { IfErr result (ReadFails S.Source source.old source.new reader.old) }
@@ -152,6 +155,8 @@ impl Lines {
             (ReadsLines S.Source source.old source.new reader.old reader.new (line ∷ []))) }
         ensures missed { (line : lines.OutLine) → self.old.wanted ≡ spelled line → IfOk result (λ is. OnFalse is
             (Misses S.Source source.old source.new reader.old (λ bytes. BeginsWith bytes (printed line) → ⊥))) }
+        ensures looked { IfOk result (λ is. OnFalse is
+            (ReadsOneAtMost S.Source source.old source.new reader.old reader.new)) }
         ensures count { IfOk result (λ is. OnTrue is (self.new.count ≡ counted self.old.count 1)) }
         ensures err { IfErr result (ReadFails S.Source source.old source.new reader.old) }
     {
@@ -175,6 +180,8 @@ impl Lines {
             (ReadsLines S.Source source.old source.new reader.old reader.new (line_of line.now ∷ []))) }
         ensures missed { IfOk result (λ is. OnFalse is (Misses S.Source source.old source.new reader.old
             (λ bytes. BeginsWith bytes (printed (line_of line.now)) → ⊥))) }
+        ensures looked { IfOk result (λ is. OnFalse is
+            (ReadsOneAtMost S.Source source.old source.new reader.old reader.new)) }
         ensures count { IfOk result (λ is. OnTrue is (self.new.count ≡ counted self.old.count 1)) }
         ensures err { IfErr result (ReadFails S.Source source.old source.new reader.old) }
     {
@@ -195,6 +202,8 @@ impl Lines {
             (ReadsLines S.Source source.old source.new reader.old reader.new (map T.line items.now))) }
         ensures missed { IfOk result (λ is. OnFalse is (Misses S.Source source.old source.new reader.old
             (λ bytes. BeginsWith bytes (text_of (map T.line items.now)) → ⊥))) }
+        ensures looked { IfOk result (λ is. OnFalse is (ReadsBeginning S.Source (λ lines. lines ≡ map T.line items.now)
+            source.old source.new reader.old reader.new)) }
         ensures count { IfOk result (λ is. OnTrue is (self.new.count ≡ counted self.old.count (length items.now))) }
         ensures err { IfErr result (ReadFails S.Source source.old source.new reader.old) }
     {
@@ -248,6 +257,8 @@ impl Lines {
         ensures missed { IfOk result (λ is. OnFalse is (Misses S.Source source.old source.new reader.old
             (λ bytes. BeginsWith bytes (text_of (map (to_line frame (live_in world.now.records))
             (option_to_list (record_of world.now slot)))) → ⊥))) }
+        ensures looked { IfOk result (λ is. OnFalse is
+            (ReadsOneAtMost S.Source source.old source.new reader.old reader.new)) }
         ensures count { IfOk result (λ is. OnTrue is
             (self.new.count ≡ counted self.old.count (length (option_to_list (record_of world.now slot))))) }
         ensures err { IfErr result (ReadFails S.Source source.old source.new reader.old) }
@@ -275,6 +286,8 @@ impl Lines {
             (to_lines frame world.now.records))) }
         ensures missed { IfOk result (λ is. OnFalse is (Misses S.Source source.old source.new reader.old
             (λ bytes. BeginsWith bytes (text_of (to_lines frame world.now.records)) → ⊥))) }
+        ensures looked { IfOk result (λ is. OnFalse is (ReadsBeginning S.Source
+            (λ lines. lines ≡ to_lines frame world.now.records) source.old source.new reader.old reader.new)) }
         ensures count { IfOk result (λ is. OnTrue is
             (self.new.count ≡ counted self.old.count (length (to_lines frame world.now.records)))) }
         ensures err { IfErr result (ReadFails S.Source source.old source.new reader.old) }

@@ -1,7 +1,9 @@
 use Rattle.std.proofs.Common.{◌∙◌}
-use Rattle.arena_actions.specs.MapActions.{map_in}
+use Rattle.arena_actions.specs.MapActions.{map_in, keeps_rules}
 use Rattle.transcript_check.proofs.Texts.{ok_false-weaker, ok_true-both}
-use Rattle.transcript_check.proofs.Frames.{head-missed, moves-missed, replies-missed, frame-read}
+use Rattle.transcript_check.proofs.Frames.{head-missed, moves-missed, replies-missed, frame-read, head-looked, moves-looked, replies-looked}
+use Rattle.transcript_check.proofs.Turns.{ready-first}
+use Rattle.transcript_check.proofs.MovesRead.{some-right}
 use Rattle.transcript_check.proofs.checker.expect_lines.Goals as goal
 
 pub returns-then-not-branch-clause-missed : goal.returns-then-not-branch-clause-missed
@@ -32,3 +34,27 @@ returns-clause-missed g c =
     (replies-missed g.S.Source (map_in c.args.mover.now.action) c.args.frame c.args.received.now.lists c.args.world.now.records c.args.source.now c.expect_head.new.source c.args.reader.now c.expect_head.new.reader
     (rw c.if-not-branch.false at c.in_ok-expect_head.ensures.ok) c.expect_moves.new.source c.expect_moves.new.reader c.expect_moves.new.world.records c.expect_head.new.lines.count c.expect_moves.new.lines.count runs
     c.expect_replies.new.source)
+
+pub returns-then-not-branch-clause-looked : goal.returns-then-not-branch-clause-looked
+returns-then-not-branch-clause-looked g c =
+    let action = c.args.mover.now.action in
+    let lists = c.args.received.now.lists in
+    let records = c.args.world.now.records in
+    let some = some-right g.S.Source (map_in action) (keeps_rules action) lists.moves records (ready-first (map_in action) records lists.moves c.requires.valid c.requires.live c.requires.apart) in
+    head-looked g.S.Source (map_in action) c.args.frame lists records some.journal some.right c.args.source.now c.expect_head.new.source c.args.reader.now c.expect_head.new.reader
+    (rw c.if-not-branch.true at c.in_ok-expect_head.ensures.looked)
+
+pub returns-then-not-branch-2-clause-looked : goal.returns-then-not-branch-2-clause-looked
+returns-then-not-branch-2-clause-looked g c =
+    let moves = c.set.ensures.moves ∙ c.moves.ensures in
+    moves-looked g.S.Source (map_in c.args.mover.now.action) c.args.frame c.args.received.now.lists c.args.world.now.records c.args.source.now c.expect_head.new.source c.args.reader.now c.expect_head.new.reader
+    (rw c.if-not-branch.false at c.in_ok-expect_head.ensures.ok) c.expect_moves.new.source c.expect_moves.new.reader (rw moves at (rw c.if-not-branch-2.true at c.in_ok-expect_moves.ensures.looked))
+
+pub returns-clause-looked : goal.returns-clause-looked
+returns-clause-looked g c =
+    let moves = c.set.ensures.moves ∙ c.moves.ensures in
+    let runs = rw moves at (rw c.if-not-branch-2.false at c.in_ok-expect_moves.ensures.ok) in
+    ok_false-weaker c.expect_replies.result _ _ c.expect_replies.ensures.looked
+    (replies-looked g.S.Source (map_in c.args.mover.now.action) c.args.frame c.args.received.now.lists c.args.world.now.records c.args.source.now c.expect_head.new.source c.args.reader.now c.expect_head.new.reader
+    (rw c.if-not-branch.false at c.in_ok-expect_head.ensures.ok) c.expect_moves.new.source c.expect_moves.new.reader c.expect_moves.new.world.records c.expect_head.new.lines.count c.expect_moves.new.lines.count runs
+    c.expect_replies.new.source c.expect_replies.new.reader)

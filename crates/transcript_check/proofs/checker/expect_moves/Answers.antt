@@ -3,7 +3,7 @@ use Rattle.std.proofs.lemmas.Result.{err_from_is_err_and}
 use Rattle.arena_actions.specs.MapActions.{map_in, keeps_rules}
 use Rattle.transcript_check.proofs.ReadingOn.{fails-after}
 use Rattle.transcript_check.proofs.Turns.{ready-first}
-use Rattle.transcript_check.proofs.MovesRead.{so-far-first, so-far-next, so-far-missed, so-far-done}
+use Rattle.transcript_check.proofs.MovesRead.{so-far-first, so-far-next, so-far-missed, so-far-looked, so-far-done}
 use Rattle.transcript_check.proofs.checker.expect_moves.Goals as goal
 
 pub loop-mover-init : goal.loop-mover-init
@@ -45,3 +45,10 @@ returns-in_err-expect_move-clause-err g c =
     rw (p.1 ∙ ap Err p.2)
     (fails-after g.S.Source c.args.source.now c.loop-mover.source c.expect_move.new.source c.args.reader.now c.loop-mover.reader c.in_err-expect_move.field-0.0
     c.loop-mover.invariant.so.reads.on c.in_err-expect_move.ensures.err)
+
+pub returns-then-not-branch-clause-looked : goal.returns-then-not-branch-clause-looked
+returns-then-not-branch-clause-looked g c =
+    let action = c.args.mover.now.action in
+    so-far-looked g.S.Source (map_in action) (keeps_rules action) c.args.pending.now c.args.world.now.records c.args.source.now c.loop-mover.source c.args.reader.now c.loop-mover.reader c.loop-mover.world.records
+    c.loop-mover.pending c.args.lines.now.count c.loop-mover.lines.count c.loop-mover.invariant.so c.expect_move.new.source c.expect_move.new.reader
+    (rw c.if-not-branch.true at c.in_ok-expect_move.ensures.looked)

@@ -8,7 +8,7 @@ use Rattle.demo_lines.specs.Rest.{HasRest}
 use Rattle.transcript_check.specs.Reading.{ahead_of}
 use Rattle.transcript_check.specs.Checkers.{CheckerView}
 use Rattle.transcript_check.specs.Verdicts.{IsShort, Judges}
-use Rattle.transcript_check.proofs.NextFrames.{if_ok-weaker}
+use Rattle.transcript_check.proofs.NextFrames.{if_ok-both}
 use Rattle.transcript_check.proofs.Judged.{read-few, read-short, read-judged, stops-comparing}
 use Rattle.transcript_check.proofs.checking.check.Goals as goal
 
@@ -36,9 +36,9 @@ returns-clause-ok g c =
     let demo = c.read_recording.new.reader in
     let arena = c.in_ok-checker.checker.map in
     let map_is = sym c.take_map.ensures.map ∙ c.unwrap-map.ensures ∙ ap Some (sym (ap (λ (u : CheckerView). u.map) c.in_ok-checker.ensures.checker)) in
-    if_ok-weaker c.compare.result _ (Judges g.S.Source c.args.reader.now.reading.limit c.args.source.now c.compare.new.source) c.compare.ensures.ok
-    (λ verdict missed. read-judged g.S.Source c.args.reader.now.reading.limit c.args.source.now c.read_recording.new.source demo c.in_ok-recorded.recorded c.in_ok-recorded.ensures.ok
-    c.compare.new.source c.take_map.new.self arena verdict c.take_map.ensures.rest map_is (rw c.frames.ensures at (rw c.end_line-before.ensures at missed)))
+    if_ok-both c.compare.result _ _ (Judges g.S.Source c.args.reader.now.reading.limit c.args.source.now c.compare.new.source) c.compare.ensures.ok c.compare.ensures.looked
+    (λ verdict missed looks. read-judged g.S.Source c.args.reader.now.reading.limit c.args.source.now c.read_recording.new.source demo c.in_ok-recorded.recorded c.in_ok-recorded.ensures.ok
+    c.compare.new.source c.take_map.new.self c.compare.new.reader arena verdict c.take_map.ensures.rest map_is (rw c.frames.ensures at (rw c.end_line-before.ensures at missed)) (rw c.frames.ensures at looks))
 
 pub returns-clause-err : goal.returns-clause-err
 returns-clause-err g c =

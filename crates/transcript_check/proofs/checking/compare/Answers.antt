@@ -3,7 +3,7 @@ use Rattle.std.proofs.lemmas.List.{length-map}
 use Rattle.packet_read.specs.declared.arrival.Arrival.{Arrival}
 use Rattle.transcript_check.specs.Verdicts.{IsShort}
 use Rattle.transcript_check.proofs.NextFrames.{take-next, all-next, take-all, next-short}
-use Rattle.transcript_check.proofs.FramesRead.{FramesSoFar, so-far-none, so-far-pushed, frame-wrong, end-wrong, all-right}
+use Rattle.transcript_check.proofs.FramesRead.{FramesSoFar, so-far-none, so-far-pushed, frame-wrong, end-wrong, all-right, wrong-looked, endless-looked, right-looked}
 use Rattle.transcript_check.proofs.checking.compare.Goals as goal
 
 pub loop-arrivals-init : goal.loop-arrivals-init
@@ -56,3 +56,31 @@ returns-clause-ok g c =
     (take n frames) (take-all items c.args.frames.now n (let past = c.loop-arrivals-test.false in omega (arith, past)))
     c.args.source.now c.loop-arrivals.source c.expect_end.new.source c.args.reader.now c.loop-arrivals.reader c.expect_end.new.reader c.loop-arrivals.checker c.loop-arrivals.invariant _ _
     (c.frames.ensures ∙ c.expect_end.ensures.frames) (c.moves.ensures ∙ c.expect_end.ensures.moves) (rw c.if-not-branch-2.false at c.in_ok-expect_end.ensures.ok)
+
+pub returns-then-not-branch-clause-looked : goal.returns-then-not-branch-clause-looked
+returns-then-not-branch-clause-looked g c =
+    let items : Vec Arrival Global → List Arrival = λ v. v.items in
+    let is = c.as_slice.ensures.value ∙ ap items c.arrivals-item.is in
+    let n = c.loop-arrivals.arrivals-index in
+    let frames = map items c.args.frames.now in
+    wrong-looked g.S.Source c.args.checker.now.map frames (take n frames) (drop (suc n) frames) c.as_slice.result.now
+    (all-next items c.args.frames.now n _ c.as_slice.result.now c.loop-arrivals-test.true is) c.args.source.now c.loop-arrivals.source c.expect_frame.new.source c.args.reader.now c.loop-arrivals.reader
+    c.expect_frame.new.reader c.loop-arrivals.checker c.loop-arrivals.invariant (rw c.if-not-branch.true at c.in_ok-expect_frame.ensures.looked)
+
+pub returns-then-not-branch-2-clause-looked : goal.returns-then-not-branch-2-clause-looked
+returns-then-not-branch-2-clause-looked g c =
+    let items : Vec Arrival Global → List Arrival = λ v. v.items in
+    let n = c.loop-arrivals.arrivals-index in
+    let frames = map items c.args.frames.now in
+    endless-looked g.S.Source c.args.checker.now.map frames (take n frames) (take-all items c.args.frames.now n (let past = c.loop-arrivals-test.false in omega (arith, past))) c.args.source.now
+    c.loop-arrivals.source c.expect_end.new.source c.args.reader.now c.loop-arrivals.reader c.expect_end.new.reader c.loop-arrivals.checker c.loop-arrivals.invariant
+    (rw c.if-not-branch-2.true at c.in_ok-expect_end.ensures.looked)
+
+pub returns-clause-looked : goal.returns-clause-looked
+returns-clause-looked g c =
+    let items : Vec Arrival Global → List Arrival = λ v. v.items in
+    let n = c.loop-arrivals.arrivals-index in
+    let frames = map items c.args.frames.now in
+    right-looked g.S.Source c.args.checker.now.map frames (take n frames) (take-all items c.args.frames.now n (let past = c.loop-arrivals-test.false in omega (arith, past))) c.args.source.now
+    c.loop-arrivals.source c.expect_end.new.source c.args.reader.now c.loop-arrivals.reader c.expect_end.new.reader c.loop-arrivals.checker c.loop-arrivals.invariant
+    (rw c.if-not-branch-2.false at c.in_ok-expect_end.ensures.ok)

@@ -13,6 +13,7 @@ returns-in_err-event-clause-err g c =
     rw (p.1 ∙ ap Err p.2)
     (stops g.S.Source c.args.reader.now.reading.limit c.args.source.now c.events.source c.events.reader c.events.recorded c.events.invariant c.next.new.source c.next.new.self c.in_err-event.field-0.0 (record {
       refused = given.refused;
+      taken = given.taken;
       cause = given.cause;
       sure = given.sure;
       no_end = given.no_end;
@@ -25,12 +26,12 @@ pub returns-then-is_last-clause-ok : goal.returns-then-is_last-clause-ok
 returns-then-is_last-clause-ok g c =
     let given = c.in_ok-event.ensures in
     ends g.S.Source c.args.reader.now.reading.limit c.args.source.now c.events.source c.events.reader c.events.recorded c.events.invariant c.next.new.source c.next.new.self c.in_ok-event.event c.take.new.self
-    (record { event = given.event; stage = given.stage; map = given.map; uncounted = given.uncounted; keeps = given.keeps; ok = given.ok; cut = given.cut; holds = given.holds })
+    (record { event = given.event; stage = given.stage; map = given.map; uncounted = given.uncounted; keeps = given.keeps; ok = given.ok; cut = given.cut; needed = given.needed; holds = given.holds })
     c.in_ok-take.ensures (sym c.is_end-is_last.ensures ∙ c.if-is_last.true)
 
 pub events-preserved : goal.events-preserved
 events-preserved g c =
     let given = c.in_ok-event.ensures in
     goes_on g.S.Source c.args.reader.now.reading.limit c.args.source.now c.events.source c.events.reader c.events.recorded c.events.invariant c.next.new.source c.next.new.self c.in_ok-event.event c.take.new.self
-    (record { event = given.event; stage = given.stage; map = given.map; uncounted = given.uncounted; keeps = given.keeps; ok = given.ok; cut = given.cut; holds = given.holds })
+    (record { event = given.event; stage = given.stage; map = given.map; uncounted = given.uncounted; keeps = given.keeps; ok = given.ok; cut = given.cut; needed = given.needed; holds = given.holds })
     c.in_ok-take.ensures (sym c.is_end-is_last.ensures ∙ c.if-is_last.false)

@@ -1,6 +1,6 @@
 use Rattle.std.proofs.Common.{◌∷◌, [], map, refl, ap, ◌∙◌}
 use Rattle.transcript_check.proofs.Texts.{left_cons}
-use Rattle.transcript_check.proofs.ReadingOn.{some-first, some-next, some-missed, misses-one}
+use Rattle.transcript_check.proofs.ReadingOn.{some-first, some-next, some-missed, some-looked, misses-one}
 use Rattle.transcript_check.proofs.lines.Lines.expect_each.Goals as goal
 
 pub loop-item-init : goal.loop-item-init
@@ -21,3 +21,8 @@ loop-item-preserved g c =
     let reads = rw line at (rw c.if-not-branch.false at c.in_ok-expect.ensures.ok) in
     some-next g.S.Source c.args.source.now c.loop-item.source c.expect.new.source c.args.reader.now c.loop-item.reader c.expect.new.reader _ _ _ _ (_ ∷ []) _ (rw here at c.loop-item.invariant)
     reads (rw c.if-not-branch.false at c.in_ok-expect.ensures.count)
+
+pub returns-then-not-branch-clause-looked : goal.returns-then-not-branch-clause-looked
+returns-then-not-branch-clause-looked g c =
+    some-looked g.S.Source c.args.source.now c.loop-item.source c.expect.new.source c.args.reader.now c.loop-item.reader c.expect.new.reader _ _ _ _ c.loop-item.invariant
+    (rw c.if-not-branch.true at c.in_ok-expect.ensures.looked)

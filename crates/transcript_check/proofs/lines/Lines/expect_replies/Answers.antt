@@ -5,7 +5,7 @@ use Rattle.world_tree.specs.Live.{record_at, live_in}
 use Rattle.transcript_check.specs.Reading.{counted}
 use Rattle.out_text.specs.FrameLines.{to_line, to_lines}
 use Rattle.transcript_check.proofs.Replies.{replies-next, replies-none, replies-all}
-use Rattle.transcript_check.proofs.ReadingOn.{some-first, some-next, some-missed, some-all, some-count}
+use Rattle.transcript_check.proofs.ReadingOn.{some-first, some-next, some-missed, some-looked, some-all, some-count}
 use Rattle.transcript_check.proofs.lines.Lines.expect_replies.Goals as goal
 
 pub loop-slot-init : goal.loop-slot-init
@@ -42,3 +42,8 @@ returns-clause-count g c =
     let records = c.args.world.now.records in
     let all : c.loop-slot.slot ≡ 64 = omega arith in
     some-count g.S.Source c.args.source.now c.loop-slot.source c.args.reader.now c.loop-slot.reader _ _ _ _ (replies-none (to_line c.args.frame (live_in records)) records c.loop-slot.slot all) c.loop-slot.invariant
+
+pub returns-then-not-branch-clause-looked : goal.returns-then-not-branch-clause-looked
+returns-then-not-branch-clause-looked g c =
+    some-looked g.S.Source c.args.source.now c.loop-slot.source c.expect_reply.new.source c.args.reader.now c.loop-slot.reader c.expect_reply.new.reader _ _ _ _ c.loop-slot.invariant
+    (rw c.if-not-branch.true at c.in_ok-expect_reply.ensures.looked)

@@ -1,6 +1,6 @@
 use Rattle.std.proofs.Common.{length, sym, ap, ◌∙◌, arith}
-use Rattle.transcript_check.proofs.Texts.{on_false-weaker}
-use Rattle.transcript_check.proofs.ReadingOn.{misses-none, misses-other}
+use Rattle.transcript_check.proofs.Texts.{on_false-weaker, on_false-all}
+use Rattle.transcript_check.proofs.ReadingOn.{misses-none, misses-other, looked-line}
 use Rattle.transcript_check.proofs.lines.Lines.expect_wanted.Goals as goal
 
 pub returns-then-not-branch-clause-missed : goal.returns-then-not-branch-clause-missed
@@ -14,3 +14,7 @@ returns-clause-missed g c = λ line is.
     on_false-weaker c.is_as_wanted.result _ _ c.is_as_wanted.ensures.other
     (λ other. misses-other g.S.Source c.args.source.now c.take.new.source c.args.reader.now c.take.new.reader c.take.new.self.given line read
     (λ same. other (same ∙ sym is ∙ sym c.in_ok-take.ensures.wanted)))
+
+pub returns-clause-looked : goal.returns-clause-looked
+returns-clause-looked g c =
+    on_false-all c.is_as_wanted.result _ (looked-line g.S.Source c.args.source.now c.take.new.source c.args.reader.now c.take.new.reader c.take.new.self.given (rw c.if-not-branch.false at c.in_ok-take.ensures.line))
