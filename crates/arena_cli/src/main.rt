@@ -31,7 +31,7 @@ fn exit_of(report: &Report) -> ExitCode
 /// No contract says what is joined here, since none can say what a stream of the process holds: that the words are the
 /// system's, the source is standard input and the sink standard output, that this is done once and no byte is read or
 /// written beside it, that the notice goes to standard error, and that the process ends with the status of this report.
-/// What `answer` writes to the sink, and the status that it reports, are contracts. `examples/play` tries the rest.
+/// What `answer` writes to the sink, and the status that it reports, are contracts. `checks/play` tries the rest.
 fn main(rt: HostRuntime) -> ExitCode {
     let report = answer(
         &rt,
