@@ -1,11 +1,11 @@
 -- What the moves of a frame leave of each record.
 use Rattle.std.specs.Prelude.{◌≡◌, ◌≢◌, ℕ, ◌+◌, ◌≤◌, List, [], ◌∷◌, ◌++◌, Option, Some}
-use Rattle.std.proofs.Common.{refl, sym, ap, ◌∙◌, subst, arith}
+use Rattle.std.proofs.Common.{sym, ap, ◌∙◌, subst, arith}
 use Rattle.std.proofs.lemmas.List.Elements.{All-nil, All-cons}
 use Rattle.entity_recs.specs.declared.effect.Entry.{Entry}
 use Rattle.entity_recs.specs.declared.rec.Rec.{Rec}
 use Rattle.entity_recs.specs.Worlds.{World}
-use Rattle.entity_recs.specs.Histories.{Item, commands_of, entry_of, outcome, run, apply}
+use Rattle.entity_recs.specs.Histories.{Item, commands_of, outcome, run, apply}
 use Rattle.move_journal.specs.Merges.{history_of}
 use Rattle.arena_map.specs.Maps.{MapView, IsMap}
 use Rattle.arena_actions.specs.Outcomes.{outcome_on}
@@ -14,7 +14,7 @@ use Rattle.packet_read.specs.declared.arrival.Arrival.{Arrival}
 use Rattle.client_ports.specs.States.{State, IsServerState}
 use Rattle.client_ports.specs.Receiving.{Receiving}
 use Rattle.plain_server.specs.RecordsById.{world_of}
-use Rattle.plain_server.specs.Moving.{HasLivePlayer, effect_among, records_after}
+use Rattle.plain_server.specs.Moving.{HasLivePlayer, records_after}
 use Rattle.plain_server.specs.Entries.{IsReception}
 use Rattle.plain_server.specs.Frames.{received_in, moved_by, IsRightAfter}
 use Rattle.plain_server.specs.Ends.{HasNoEntryOf, unhurt}

@@ -34,7 +34,8 @@ const PRESSED: &str =
 const PRESSED_OUTPUT: &str =
     "frame 0\njoined 7 0\nto 0 0100000000000000000000000000002c0000000000000000000000000000000000000000000000000001004000050100ceffff00ceffff000a0000\nframe 1\nto 0 0101000000000000000000000000002c0000000000000000000000000000000000000000000000000001004000050100ceffff00ceffff000a0000\nend 2\n";
 
-/// An arena with two spawns, 199 items out of sight of both, the item of [`ONE_ITEM`], which gets the id 263, and two frames.
+/// An arena with two spawns, 199 items out of sight of both, the item of [`ONE_ITEM`], which gets the id 263, and two
+/// frames.
 fn with_item_263(alloc: Global) -> Result<String, AllocError> {
     let mut text = String::new(alloc);
     text.push_str(
