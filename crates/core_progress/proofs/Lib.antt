@@ -7,3 +7,4 @@ pub mod Calls
 pub mod Rounds
 pub mod Schedules
 pub mod Ends
+pub mod Turns

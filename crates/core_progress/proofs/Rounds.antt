@@ -1,8 +1,8 @@
 -- A round in which a command is in hand serves a step.
 use Rattle.std.proofs.Common.{◌≡◌, ℕ, zero, suc, ◌+◌, ◌*◌, ◌<◌, ◌≤◌, ◌⊎◌, Bool, true, false, List, [], ◌∷◌, length, refl, sym, ap, ◌∙◌, subst, inl, inr, Option, Some, None, is_some, arith}
-use Rattle.std.specs.Prelude.{◌==◌, ◌||◌, if◌then◌else◌, map}
+use Rattle.std.specs.Prelude.{◌==◌, ◌||◌, if◌then◌else◌}
 use Rattle.std.specs.List.{range_with_len, list_any}
-use Rattle.std.proofs.lemmas.Bool.{cases_Bool, false≢true, true≢false, or_cases, or_left, or_right, cond-true, cond-false, eqb-true, eq-eqb}
+use Rattle.std.proofs.lemmas.Bool.{cases_Bool, false≢true, true≢false, or_cases, cond-true, cond-false, eqb-true}
 use Rattle.areanode.specs.Trees.{IsTreeDepth}
 use Rattle.entity_recs.specs.declared.effect.Effect.{Effect}
 use Rattle.entity_recs.specs.Commands.{Command}
@@ -15,14 +15,13 @@ use Rattle.core_steps.specs.Stands.{IsLawful, IsStart}
 use Rattle.core_steps.specs.Machine.{Machine, Next, Begin, LoadOwn, LoadAgain, TakeNode, ClaimNode, ReadList, ReadPlayer, ReadState, CommitMove, StoreWord, GiveNode, YieldNode, YieldCount, next_at, next_of, quitting, beginning, word_of_next, core_after, machine_after, MachineStands}
 use Rattle.core_steps.specs.Calls.{Call, Give, Go, GiveUp, gone_on, with_given, with_quitting, after_call, after_calls, has_command, MayBeGiven, MayBeCalled, MayAllBeCalled, StandsSomehow}
 use Rattle.core_steps.proofs.Puts.{put_other}
-use Rattle.core_steps.proofs.Nexts.{next_exists}
 use Rattle.core_steps.proofs.OneView.{steps_change_one_view}
 use Rattle.core_steps.proofs.Reached.{stands_called}
 use Rattle.core_seats.specs.StepsLeft.{is_served, left_at}
 use Rattle.core_progress.specs.Progress.{serves_next, can_step, served_by, served, commands_given, effect_or_longest, given_steps, steps_of_command, seat_steps, steps_of_all, lets_go, IsRound, AreRounds, after_rounds, commands_in, any_in_hand, busy_rounds}
-use Rattle.core_progress.specs.Laws.{TurnsAreRounds, BusyRoundsAreFew, RoundsEndAllCommands}
-use Rattle.core_progress.proofs.Serving.{served_next, some_seat_can_step}
-use Rattle.core_progress.proofs.Calls.{below_made, call_left, calls_left, command_steps}
+use Rattle.core_progress.specs.Laws.{BusyRoundsAreFew, RoundsEndAllCommands}
+use Rattle.core_progress.proofs.Serving.{some_seat_can_step}
+use Rattle.core_progress.proofs.Calls.{call_left, calls_left, command_steps}
 use Rattle.core_progress.proofs.Sums.{none_of, sum_some}
 
 -- ---- steps are left exactly where a command is in hand
@@ -218,31 +217,6 @@ busy_round F m round lawful start is here some =
     let free = some_seat_can_step F m is.history is.now some.seat is.stands some.has in
     round_serves F m free.seat round lawful start is here.may free.steps (here.each free.seat free.steps)
 
--- ---- turns
-
-turns_may : (F : Fixed) (m : Machine) (low n : ℕ) → MayAllBeCalled F m (map Go (range_with_len low n))
-turns_may F m low zero = tt
-turns_may F m low (suc n) = (tt, turns_may F (after_call F m (Go low)) (low + 1) n)
-
-turns_go : (i low n : ℕ) → low ≤ i → i < low + n → lets_go i (map Go (range_with_len low n)) ≡ true
-turns_go i low zero least most = absurd (omega (arith, least, most))
-turns_go i low (suc n) least most = elim (cases_Bool (low == i)) [
-  | inl same ↦ or_left _ _ same
-  | inr other ↦ or_right _ _ (turns_go i (low + 1) n (later low i other least) (omega (arith, most)))
-]
-  where
-    later : (a b : ℕ) → (a == b) ≡ false → a ≤ b → a + 1 ≤ b
-    later a b other least = let differ : a ≡ b → ⊥ = λ same. true≢false (sym (eq-eqb a b same) ∙ other) in omega (arith, differ, least)
-
-pub turns_are_rounds : TurnsAreRounds
-turns_are_rounds F m history now is = record {
-  may = turns_may F m 0 (m.core.view 0).made;
-  each = λ i can.
-      let next = served_next m.core.words (m.core.view i) (next_of F m i) can in
-      let below = below_made F m history now i is (sym (next_exists F m history now i is) ∙ ap is_some next.is) in
-      turns_go i 0 (m.core.view 0).made (omega arith) (omega (arith, below));
-}
-
 -- ---- rounds
 
 some_any : (test : ℕ → Bool) (xs : List ℕ) → list_any test xs ≡ true → (n : ℕ) × (test n ≡ true)
@@ -277,7 +251,7 @@ busy_rounds_are_few F m history now rounds lawful start depth is are =
     let each = ap (λ (steps : ℕ). commands_in rounds * steps) (command_steps F) in
     omega (arith, few, each)
 
-rounds_end : (F : Fixed) (m : Machine) (rounds : List (List Call)) → IsLawful F → IsStart F → IsTreeDepth F.tree.depth → StandsSomehow F m → AreRounds F m rounds
+pub rounds_end : (F : Fixed) (m : Machine) (rounds : List (List Call)) → IsLawful F → IsStart F → IsTreeDepth F.tree.depth → StandsSomehow F m → AreRounds F m rounds
     → commands_in rounds ≡ 0 → steps_of_all F m ≤ length rounds → (i : ℕ) → has_command (after_rounds F m rounds) i ≡ false
 rounds_end F m [] lawful start depth is are none few i = none_in_hand F m lawful start depth is (omega (arith, few)) i
 rounds_end F m (round ∷ rounds) lawful start depth is are none few i =

@@ -1,16 +1,15 @@
 -- That all moves come to their end.
-use Rattle.std.specs.Prelude.{ℕ, ◌≡◌, ◌≤◌, ◌+◌, ◌*◌, true, false, length, List, [], map}
-use Rattle.std.specs.List.{range_with_len}
+use Rattle.std.specs.Prelude.{ℕ, ◌≡◌, ◌≤◌, ◌+◌, ◌*◌, true, false, length, List, []}
 use Rattle.areanode.specs.Trees.{IsTreeDepth}
 use Rattle.entity_recs.specs.Worlds.{World}
 use Rattle.entity_recs.specs.Histories.{Item, commands_of}
 use Rattle.core_steps.specs.Views.{Fixed}
 use Rattle.core_steps.specs.Stands.{IsLawful, IsStart}
 use Rattle.core_steps.specs.Machine.{Machine, MachineStands}
-use Rattle.core_steps.specs.Calls.{Call, Go, start_machine, after_calls, MayAllBeCalled, has_command, kept_by}
-use Rattle.core_progress.specs.Progress.{served, commands_given, steps_of_all, StepsOrWaits}
-use Rattle.core_progress.specs.Progress.{SomeSeatSteps, IsRound, AreRounds, after_rounds, commands_in, busy_rounds}
-use Rattle.core_progress.specs.Progress.{IsFair, EndsSometime}
+use Rattle.core_steps.specs.Calls.{Call, start_machine, after_calls, MayAllBeCalled, has_command, kept_by}
+use Rattle.core_progress.specs.Progress.{served, commands_given, steps_of_all, StepsOrWaits, SomeSeatSteps, IsRound}
+use Rattle.core_progress.specs.Progress.{AreRounds, after_rounds, turns, after_turns, commands_in, any_in_hand}
+use Rattle.core_progress.specs.Progress.{busy_rounds, IsFair, EndsSometime}
 
 -- whatever calls are made, the steps that are served, and those that are left after them, are at most those that were
 -- left before, and for each command that is given 24,471 and two for each live id
@@ -46,7 +45,22 @@ SomeSeatCanStep =
 abbrev pub TurnsAreRounds : Type 0
 TurnsAreRounds =
     (F : Fixed) (m : Machine) (history : List Item) (now : World) → MachineStands F m history now
-    → IsRound F m (map Go (range_with_len 0 (m.core.view 0).made))
+    → IsRound F m (turns m)
+
+-- whatever calls are made from the start on: no command is in hand after as many turns of all seats as 24,471 and two for
+-- each live id for each command that was given
+abbrev pub TurnsEndAllCommands : Type 0
+TurnsEndAllCommands =
+    (F : Fixed) (room : ℕ) (rooms : List ℕ) (calls : List Call) (n : ℕ) → IsLawful F → IsStart F
+    → IsTreeDepth F.tree.depth → MayAllBeCalled F (start_machine F room rooms) calls
+    → commands_given calls * (24471 + 2 * length F.start.ids) ≤ n
+    → (i : ℕ) → has_command (after_turns F (after_calls F (start_machine F room rooms) calls) n) i ≡ false
+
+-- a command in hand of any seat counts for a round
+abbrev pub CommandsInHandAreSeen : Type 0
+CommandsInHandAreSeen =
+    (F : Fixed) (m : Machine) (history : List Item) (now : World) (i : ℕ) → MachineStands F m history now
+    → has_command m i ≡ true → any_in_hand m ≡ true
 
 -- of any rounds, at most as many begin with a command in hand as steps were left, and 24,471 and two for each live id for
 -- each command that they give

@@ -1,3 +1,8 @@
 -- When moves come to their end.
+pub use Rattle.core_steps.specs.Views
+pub use Rattle.core_steps.specs.Stands
+pub use Rattle.core_steps.specs.Machine
+pub use Rattle.core_steps.specs.Calls
+pub use Rattle.core_seats.specs.StepsLeft
 pub mod Progress
 pub mod Laws

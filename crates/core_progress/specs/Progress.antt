@@ -114,7 +114,16 @@ abbrev pub after_rounds : Fixed → Machine → List (List Call) → Machine
 after_rounds F m [] = m
 after_rounds F m (round ∷ rounds) = after_rounds F (after_calls F m round) rounds
 
--- how many commands they give
+-- the calls by which each seat goes on once, in the order of their numbers
+abbrev pub turns : Machine → List Call
+turns m = map Go (range_with_len 0 (m.core.view 0).made)
+
+-- the machine after so many turns of all seats
+abbrev pub after_turns : Fixed → Machine → ℕ → Machine
+after_turns F m zero = m
+after_turns F m (suc n) = after_turns F (after_calls F m (turns m)) n
+
+-- how many commands rounds give
 abbrev pub commands_in : List (List Call) → ℕ
 commands_in [] = 0
 commands_in (round ∷ rounds) = commands_given round + commands_in rounds

@@ -1,6 +1,7 @@
 ghost use Rattle.core_progress.specs.Laws.{ServedStepsAreBounded, CommandsTakeFewSteps, SeatsStepOrWait};
 ghost use Rattle.core_progress.specs.Laws.{SomeSeatCanStep, RoundsEndAllCommands, FairSchedulesEndAllCommands};
-ghost use Rattle.core_progress.specs.Laws.{TurnsAreRounds, BusyRoundsAreFew, EndedCommandsAreLogged};
+ghost use Rattle.core_progress.specs.Laws.{TurnsAreRounds, TurnsEndAllCommands, CommandsInHandAreSeen};
+ghost use Rattle.core_progress.specs.Laws.{BusyRoundsAreFew, EndedCommandsAreLogged};
 
 /// Whatever calls are made of a machine that stands, in whatever order: the steps that are served, and those that are
 /// left after them, are at most those that were left before, and for each command that is given 24,471 and two for each
@@ -29,6 +30,17 @@ pub fn some_seat_can_step()
 /// To let each seat go on once, in the order of their numbers, is a round.
 pub fn turns_are_rounds()
     ensures { TurnsAreRounds }
+{}
+
+/// Whatever calls are made from the start on: after as many turns of all seats as 24,471 and two for each live id for each
+/// command that was given, no seat has a command in hand.
+pub fn turns_end_all_commands()
+    ensures { TurnsEndAllCommands }
+{}
+
+/// A round begins with a command in hand wherever any seat has one, whatever its number.
+pub fn commands_in_hand_are_seen()
+    ensures { CommandsInHandAreSeen }
 {}
 
 /// Of any rounds, one after another, at most as many begin with a command in hand as there were steps left, and 24,471

@@ -1,4 +1,4 @@
-use Rattle.core_progress.proofs.Rounds.{turns_are_rounds}
+use Rattle.core_progress.proofs.Turns.{turns_are_rounds}
 use Rattle.core_progress.proofs.laws.turns_are_rounds.Goals as goal
 
 pub returns : goal.returns
