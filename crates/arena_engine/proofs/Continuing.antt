@@ -1,23 +1,18 @@
 -- What is known of a whole recording once its front was read.
-use Rattle.std.proofs.Common.{◌≡◌, ℕ, true, false, inl, inr, List, [], ◌∷◌, ◌++◌, Option, Some, None, IfSome, refl, sym, ap, ◌∙◌, subst, append_assoc, append-nil, cond}
+use Rattle.std.proofs.Common.{◌≡◌, ℕ, true, inl, inr, List, [], ◌∷◌, ◌++◌, Option, Some, None, IfSome, refl, sym, ap, ◌∙◌, subst, append_assoc, append-nil, cond}
 use Rattle.std.specs.List.{AllByRecursion}
-use Rattle.std.specs.Io.KnownBytes.{Consumes}
-use Rattle.std.proofs.lemmas.Grind.{flat_map-append}
-use Rattle.std.proofs.KnownBytes.{Consumes-trans}
 use Rattle.edge_io.specs.Lines.{HasNoLineFeed}
 use Rattle.edge_io.specs.WholeLines.{unlines}
-use Rattle.edge_io.proofs.Feeds.{each_of_both}
 use Rattle.arena_map.specs.Maps.{MapView}
 use Rattle.demo_lines.specs.declared.event.Event.{Event}
 use Rattle.demo_lines.specs.Known.{Reading, start, is_map_whole, is_over}
 use Rattle.demo_lines.specs.Lines.{is_end}
 use Rattle.demo_lines.specs.Recording.{next, events_of_line, after, events_of}
 use Rattle.demo_lines.specs.Bytes.{last_part, lines_of, refused_where, events_in, fault_in, events, fault, map_of}
-use Rattle.demo_lines.specs.Reads.{Reads, TakesCutEnd, IsTextOf}
+use Rattle.demo_lines.specs.Reads.{Reads, IsTextOf}
 use Rattle.demo_lines.proofs.Machines.{run_of-append, outputs_of-append}
 use Rattle.demo_lines.proofs.Parts.{lines_of-unlines, lines_of-none}
 use Rattle.demo_lines.proofs.Prefixes.{after_last}
-use Rattle.demo_lines.proofs.Joins.{whole_text}
 use Rattle.demo_lines.proofs.MapGiven.{after-kept}
 use Rattle.demo_lines.proofs.Continuing.{IsCutAt, same_refusal, cut_after_lines}
 use Rattle.out_text.specs.Collecting.{collected, frames_of}

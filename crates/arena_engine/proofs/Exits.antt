@@ -1,5 +1,5 @@
 -- How the playing of a recording ends, and what was written then.
-use Rattle.std.proofs.Common.{◌≡◌, ℕ, true, List, [], ◌∷◌, ◌++◌, length, ◌⊎◌, inl, inr, Option, Some, None, IfSome, refl, sym, ap, ◌∙◌, subst, append_assoc, append-nil}
+use Rattle.std.proofs.Common.{◌≡◌, ℕ, true, List, [], ◌∷◌, ◌++◌, length, Option, Some, None, IfSome, refl, sym, ap, ◌∙◌, subst, append_assoc, append-nil}
 use Rattle.std.specs.List.{AllByRecursion}
 use Rattle.std.specs.Io.KnownBytes.{Appends, Consumes}
 use Rattle.std.proofs.lemmas.Grind.{flat_map-append}
@@ -9,11 +9,10 @@ use Rattle.entity_recs.specs.declared.effect.Entry.{Entry}
 use Rattle.demo_lines.specs.Known.{Reading, start, is_map_whole, is_over}
 use Rattle.demo_lines.specs.declared.event.Event.{Event}
 use Rattle.demo_lines.specs.Recording.{next, events_of_line, after, events_of}
-use Rattle.edge_io.specs.Lines.{HasNoLineFeed, HasNotReadAhead, ahead}
-use Rattle.edge_io.proofs.ReadingAhead.{HasNotReadAhead-trans}
+use Rattle.edge_io.specs.Lines.{HasNoLineFeed}
 use Rattle.edge_io.specs.WholeLines.{unlines}
 use Rattle.demo_lines.specs.Bytes.{LineRefusal, lines_of, events, fault}
-use Rattle.demo_lines.specs.Reads.{Reads, ReadsFront, Refuses, IsRefusedLine, IsLongFront, IsLastPart, EndsAt}
+use Rattle.demo_lines.specs.Reads.{Reads, ReadsFront, EndsAt}
 use Rattle.demo_lines.proofs.Machines.{run_of-append, outputs_of-append}
 use Rattle.demo_lines.proofs.Parts.{lines_of-unlines}
 use Rattle.demo_lines.proofs.Joins.{whole_text}
@@ -22,7 +21,7 @@ use Rattle.out_text.specs.Collecting.{collected, frames_of}
 use Rattle.out_text.specs.Journals.{dids}
 use Rattle.out_text.specs.Output.{last_of, HasLast, IsFront, IsAllFrames, IsRefused, IsSomeFrames}
 use Rattle.arena_engine.specs.FedGames.{Last, no_last}
-use Rattle.arena_engine.specs.Output.{Writes, ReadsSome, ReadsToRefusal}
+use Rattle.arena_engine.specs.Output.{Writes, ReadsSome}
 use Rattle.arena_engine.specs.Texts.{Texts, play_texts}
 use Rattle.demo_lines.proofs.MapGiven.{after-whole, after-kept}
 use Rattle.demo_lines.proofs.Continuing.{cut_after_lines, IsCutAt}

@@ -1,17 +1,15 @@
 -- The numbers of a right transcript, counted over its lines.
-use Rattle.std.proofs.Common.{◌≡◌, ℕ, ◌+◌, ◌≤◌, Bool, true, false, cond, List, [], ◌∷◌, ◌++◌, length, map as map_list, codes, Option, None, refl, sym, ap, ◌∙◌, subst, arith}
+use Rattle.std.proofs.Common.{◌≡◌, ℕ, ◌+◌, Bool, true, false, cond, List, [], ◌∷◌, ◌++◌, length, map as map_list, codes, Option, refl, sym, ap, ◌∙◌, subst, arith}
 use Rattle.std.specs.Prelude.{count_by, nat_eq}
 use Rattle.std.specs.List.{starts_with}
 use Rattle.std.proofs.lemmas.List.{length-map}
 use Rattle.std.proofs.lemmas.List.Sums.{sum_by-append, sum_by-cons}
 use Rattle.std.proofs.lemmas.List.Sorted.{length_permutation}
-use Rattle.edge_io.specs.WholeLines.{whole_lines}
 use Rattle.entity_recs.specs.declared.effect.Entry.{Entry}
 use Rattle.entity_recs.specs.declared.rec.Rec.{Rec}
 use Rattle.entity_recs.specs.Histories.{Item}
 use Rattle.move_journal.specs.Merges.{history_of}
 use Rattle.move_journal.proofs.JournalLaws.{merges_have_whole_histories}
-use Rattle.arena_map.specs.declared.limits.TheConstants.{MOST_FRAMES}
 use Rattle.arena_map.specs.Maps.{MapView, IsMap}
 use Rattle.packet_read.specs.declared.arrival.Arrival.{Arrival}
 use Rattle.client_ports.specs.Lists.{Lists}
@@ -31,8 +29,7 @@ use Rattle.out_text.specs.Transcripts.{run_moves}
 use Rattle.out_text.proofs.Fronts.{whole_text, is_output}
 use Rattle.out_text.proofs.KeptRules.{map_keeps_rules}
 use Rattle.out_text.proofs.Quiet.{whole_lines-text}
-use Rattle.transcript_check.specs.declared.verdict.Verdict.TheVariants.{Right}
-use Rattle.transcript_check.specs.Verdicts.{IsRight, IsJudged}
+use Rattle.transcript_check.specs.Verdicts.{IsRight}
 use Rattle.transcript_check.specs.Laws.{lines_beginning, RightOnesCountTheirLines}
 use Rattle.transcript_check.proofs.VerdictsOnOutputs.{same_frames}
 

@@ -4,7 +4,6 @@ use Rattle.std.specs.Io.KnownBytes.{Consumes, IsAtEnd}
 use Rattle.std.proofs.KnownBytes.{Consumes-nil, Consumes-trans}
 use Rattle.edge_io.specs.declared.source.Source as sources
 use Rattle.edge_io.specs.Counts.{HasRisen}
-use Rattle.edge_io.specs.Lines.{HasNotReadAhead}
 use Rattle.edge_io.proofs.ReadingAhead.{HasNotReadAhead-same, HasNotReadAhead-trans}
 use Rattle.demo_lines.specs.declared.rest.TheConstants.{LONGEST_REST}
 use Rattle.demo_lines.specs.declared.demo_stop.DemoStop.{DemoStop}
@@ -13,7 +12,7 @@ use Rattle.demo_lines.specs.Rest.{HasRest, HasNoRestLine, TakesLineAtMost}
 use Rattle.out_text.specs.OutLines.{OutLine, spelled, printed, text_of}
 use Rattle.out_text.specs.Transcripts.{BeginsWith}
 use Rattle.out_text.proofs.Runs.{text_of-append}
-use Rattle.transcript_check.specs.Reading.{counted, ahead_of, IsNeeded, GoesOn, ReadsLine, ReadsLines, TakesBeginning, ReadsOneAtMost, ReadsBeginning, Misses, ReadFails}
+use Rattle.transcript_check.specs.Reading.{counted, ahead_of, IsNeeded, GoesOn, ReadsLine, ReadsLines, ReadsOneAtMost, ReadsBeginning, Misses, ReadFails}
 use Rattle.transcript_check.proofs.Texts.{missed-none, missed-other, missed-after, missed-front, missed-one}
 
 -- counts add up

@@ -14,7 +14,7 @@ use Rattle.transcript_check.specs.Laws.{BeginsWithOutput, VerdictsAreOnOutputs}
 use Rattle.transcript_check.proofs.OutputsChecked.{exclude, outputs_right, right_outputs}
 
 -- the frames are the same with the limit
-same_frames : (limit : ℕ) (bytes : List ℕ) → limit ≤ MOST_FRAMES → fault_within limit bytes ≡ None → frames_of bytes ≡ frames_within limit bytes
+pub same_frames : (limit : ℕ) (bytes : List ℕ) → limit ≤ MOST_FRAMES → fault_within limit bytes ≡ None → frames_of bytes ≡ frames_within limit bytes
 same_frames limit bytes low none = ap (λ (es : List Event). (collected es).closed) (limits_cut_nothing.same limit bytes low none).events
 
 right_verdict : (workers limit count moves : ℕ) (bytes : List ℕ) (is : IsJudged limit (Right count moves) bytes) → (workers ≡ 1 → ⊥) → limit ≤ MOST_FRAMES → BeginsWithOutput workers bytes is.rest
