@@ -14,7 +14,7 @@ use Rattle.arena_engine.specs.declared.checked.TheConstants.{MOST_CHECKED_FRAMES
 use Rattle.arena_engine.specs.declared.report.Report.{Report}
 use Rattle.arena_engine.specs.declared.summary.TheConstants.{MOST_SUMMARY_BYTES}
 use Rattle.arena_engine.specs.Checked.{IsChecked}
-use Rattle.arena_engine.specs.Endings.{Counts, IsOrMemory}
+use Rattle.arena_engine.specs.Endings.{Counts}
 use Rattle.arena_engine.specs.Summaries.{right_text}
 
 -- what was judged has no fault

@@ -1,4 +1,3 @@
-use Rattle.transcript_check.specs.declared.verdict.Verdict.TheVariants.{Right, Wrong}
 use Rattle.arena_engine.proofs.Judging.{right-checked, wrong-checked}
 use Rattle.arena_engine.proofs.checked.check_transcript.Goals as goal
 
