@@ -18,3 +18,4 @@ pub mod Reported
 pub mod Summing
 pub mod MapRead
 pub mod WaysReported
+pub mod Judging
