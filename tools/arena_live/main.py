@@ -1,0 +1,195 @@
+"""tools/live: lets people play on a map, in a browser or by UDP, and judges what they played.
+
+The program plays; this stands between it and the players' sockets, saves what came and what was answered, and at the end
+prints whether the one is right for the other. docs/LIVE.md has how, and what a client must know.
+
+statuses: 0 the match is right; 1 it is wrong; 2 the words, the map or the folder can't be used; 3 the match broke off, and
+`--resume` goes on with it; 4 it wasn't judged.
+"""
+import argparse
+import asyncio
+import os
+import signal
+import subprocess
+import tempfile
+from typing import List, Tuple
+
+import arena
+import program
+from arena_live import udp
+from arena_live.bots import Bots
+from arena_live.match import Arena, Match
+from arena_live.metrics import Metrics
+from arena_live.pipe import ProgramEnded
+from arena_live.resume import resume
+from arena_live.saved import MOST_FRAMES, SaveFault, Settings, read_map
+from arena_live.sessions import GOODBYE, Sessions
+from arena_live.verdict import NOT_JUDGED, WRONG, judge
+
+try:
+    from arena_live.web import Web
+except ImportError:
+    Web = None
+
+ALL_RIGHT, ONE_WRONG, MISUSED, BROKEN_OFF, UNJUDGED = range(5)
+
+
+class Misuse(Exception):
+    """Why the front can't begin, as a sentence."""
+
+
+def number_from(least: int, most: int):
+    def read(word: str) -> int:
+        if not word.isascii() or not word.isdigit() or not least <= int(word) <= most:
+            raise argparse.ArgumentTypeError(f"{word!r} isn't a number from {least} to {most}")
+        return int(word)
+
+    return read
+
+
+def read_words() -> argparse.Namespace:
+    parser = argparse.ArgumentParser(
+        "live", description=__doc__, formatter_class=argparse.RawDescriptionHelpFormatter, allow_abbrev=False
+    )
+    add = parser.add_argument
+    add("map", metavar="MAP", nargs="?", help="a file with the lines of a map; those of a recording before its first frame are one")
+    add("--bots", metavar="K", type=number_from(0, 64), default=0, help="so many players that the front brings (default 0)")
+    add("--workers", metavar="N", type=number_from(1, 16), default=1, help="workers of the program (default 1)")
+    add("--hz", metavar="F", type=number_from(1, 100), default=20, help="frames a second (default 20)")
+    add("--http", metavar="PORT", type=number_from(0, 65535), default=8765, help="of the page; 0 takes a free one (default 8765)")
+    add("--udp", metavar="PORT", type=number_from(0, 65535), default=27500, help="of UDP; 0 takes a free one (default 27500)")
+    add("--bind", metavar="ADDRESS", default="127.0.0.1", help="where both listen (default 127.0.0.1: this machine alone)")
+    add("--save", metavar="FOLDER", help="where the match is saved (default: a new folder among the temporary files)")
+    add("--resume", metavar="FOLDER", help="go on with the match that was saved there, in place of MAP")
+    add("--frames", metavar="N", type=number_from(1, MOST_FRAMES), help="end when the match has so many frames")
+    add(
+        "--match",
+        metavar="N",
+        type=number_from(1, MOST_FRAMES),
+        default=MOST_FRAMES,
+        help="frames of a match; then a new one begins, in FOLDER-2 and so on (default 100000, the most of a recording)",
+    )
+    words = parser.parse_args()
+    if (words.map is None) == (words.resume is None):
+        parser.error("one of MAP and --resume FOLDER is wanted")
+    return words
+
+
+def say(text: str) -> None:
+    print(f"live: {text}", flush=True)
+
+
+class Live:
+    """A run of the front: matches one after another, on the same sockets."""
+
+    def __init__(self, words: argparse.Namespace):
+        self._words, self._metrics = words, Metrics()
+        self._stop = asyncio.Event()
+        self._folder = words.resume or words.save or tempfile.mkdtemp(prefix="arena-live-")
+        self._judging: List[asyncio.Task] = []
+
+    async def run(self) -> int:
+        for number in (signal.SIGINT, signal.SIGTERM):
+            asyncio.get_running_loop().add_signal_handler(number, self._stop.set)
+        ground, sessions, match = await self._begin()
+        transport, web = None, Web(ground, sessions, self._metrics)
+        try:
+            transport, http = await self._listen(sessions, web)
+            say(f"the page is http://{self._words.bind}:{http}/ and UDP port {transport.get_extra_info('sockname')[1]}")
+            say("Control-C ends the match")
+            Bots(self._words.bots, sessions, ground, match.saved.settings.hz).enter()
+            await self._play(ground, sessions, match)
+        finally:
+            for session in sessions:
+                session.send(GOODBYE + b"over")
+            await asyncio.sleep(0)
+            if transport is not None:
+                transport.close()
+            await web.close()
+        return await self._report()
+
+    async def _begin(self) -> Tuple[Arena, Sessions, Match]:
+        """The ground, nobody on it, and the first match."""
+        words = self._words
+        if words.resume is not None:
+            resumed = await resume(words.resume, program.PROGRAM)
+            ground = Arena(*read_map(resumed.saved.recording_path), program.PROGRAM)
+            sessions = Sessions(self._metrics, resumed.saved.settings.hz)
+            say(f"resumed at frame {resumed.frame}")
+            return ground, sessions, Match.go_on(ground, sessions, self._metrics, resumed)
+        ground = Arena(*read_map(words.map), program.PROGRAM)
+        refuse_bad_map(words.map, ground)
+        sessions = Sessions(self._metrics, words.hz)
+        settings = Settings(words.workers, words.hz)
+        return ground, sessions, await Match.begin(ground, sessions, self._metrics, self._folder, settings)
+
+    async def _listen(self, sessions: Sessions, web: "Web") -> Tuple[asyncio.DatagramTransport, int]:
+        try:
+            transport = await udp.listen(sessions, self._words.bind, self._words.udp)
+        except OSError as why:
+            raise Misuse(f"UDP port {self._words.udp} of {self._words.bind} can't be had: {why.strerror}") from None
+        try:
+            return transport, await web.listen(self._words.bind, self._words.http)
+        except OSError as why:
+            transport.close()
+            raise Misuse(f"port {self._words.http} of {self._words.bind} can't be had: {why.strerror}") from None
+
+    async def _play(self, ground: Arena, sessions: Sessions, match: Match) -> None:
+        """Plays matches until the run is to end; each is judged while the next is played."""
+        words, number = self._words, 1
+        while True:
+            try:
+                await match.run(self._stop, min(words.frames or MOST_FRAMES, words.match))
+            finally:
+                await match.pipe.kill()
+            self._judging.append(asyncio.create_task(judge(ground.program, match.saved, match.frame)))
+            say(f"{match.frame} frames are saved in {match.saved.recording_path} and {match.saved.output_path}")
+            if self._stop.is_set() or words.frames is not None:
+                return
+            number += 1
+            settings = Settings(words.workers, match.saved.settings.hz)
+            match = await Match.begin(ground, sessions, self._metrics, f"{self._folder.rstrip('/')}-{number}", settings)
+
+    async def _report(self) -> int:
+        counts, quantile = self._metrics.counts, self._metrics.quantile
+        times = ", ".join(f"{name} {1000 * quantile(part):.1f}" for name, part in (("median", 0.5), ("99th", 0.99), ("worst", 1)))
+        say(
+            f"{counts['arena_frames_total']} frames, {counts['arena_late_frames_total']} late, {counts['arena_joins_total']} joins, "
+            f"{counts['arena_moves_total']} moves; milliseconds from when a frame was due until it was sent: {times}"
+        )
+        verdicts = await asyncio.gather(*self._judging)
+        for verdict in verdicts:
+            say(str(verdict))
+        kinds = {verdict.kind for verdict in verdicts}
+        return ONE_WRONG if WRONG in kinds else UNJUDGED if NOT_JUDGED in kinds else ALL_RIGHT
+
+
+def refuse_bad_map(path: str, ground: Arena) -> None:
+    """The program reads the map and a frame without packets, before anybody waits for it."""
+    text = b"\n".join([*ground.lines, b"frame", b"end", b""])
+    done = subprocess.run([ground.program, "play", "1"], input=text, capture_output=True, start_new_session=True)
+    if done.returncode != 0:
+        said = done.stderr.decode("ascii", "replace").strip() or f"status {done.returncode}"
+        raise Misuse(f"{path} is no map that the program takes: {said}; `tools/why` says it in words")
+
+
+def main() -> int:
+    words = read_words()
+    why = program.lacking()
+    if why is None and Web is None:
+        why = "the package aiohttp is wanted: `apt-get install python3-aiohttp`, and /usr/bin/python3"
+    live = None
+    try:
+        if why is not None:
+            raise Misuse(why)
+        live = Live(words)
+        return asyncio.run(live.run())
+    except (Misuse, arena.FormatError) as why:
+        say(str(why))
+        return MISUSED
+    except SaveFault as why:
+        say(str(why))
+        return MISUSED
+    except ProgramEnded as why:
+        say(f"the match broke off: {why}")
+        return BROKEN_OFF

@@ -1,0 +1,131 @@
+"""A match: its frames by the clock, and what the clients get of each."""
+import asyncio
+import struct
+from dataclasses import dataclass
+from time import monotonic
+from typing import Dict, List, Optional, Sequence
+
+import arena
+from arena_live.events import Events
+from arena_live.metrics import Metrics
+from arena_live.pipe import Pipe
+from arena_live.resume import Resumed
+from arena_live.roll import Roll, leaves_of
+from arena_live.saved import Saved, Settings, frame_text
+from arena_live.sessions import SNAPSHOT, Sessions
+
+
+@dataclass(frozen=True)
+class Arena:
+    """What is played on: the map, its lines, and the program that plays."""
+
+    map: arena.Map
+    lines: Sequence[bytes]
+    program: str
+
+
+class Match:
+    """One run of the program, from the first frame to the line `end`."""
+
+    def __init__(self, ground: Arena, sessions: Sessions, metrics: Metrics, saved: Saved, pipe: Pipe, roll: Roll, frame: int):
+        self._sessions, self._metrics = sessions, metrics
+        self.saved, self.pipe, self._roll = saved, pipe, roll
+        self._events = Events(ground.map)
+        # Players of before a resume, whose clients are gone: they leave in the first frame.
+        self._strangers = list(roll.slots)
+        self.frame = sessions.frame = frame
+
+    @classmethod
+    async def begin(cls, ground: Arena, sessions: Sessions, metrics: Metrics, folder: str, settings: Settings) -> "Match":
+        saved = Saved.create(folder, ground.lines, settings)
+        pipe = await Pipe.start(ground.program, settings.workers)
+        await pipe.send(saved.opening(ground.lines))
+        return cls(ground, sessions, metrics, saved, pipe, Roll(), 0)
+
+    @classmethod
+    def go_on(cls, ground: Arena, sessions: Sessions, metrics: Metrics, resumed: Resumed) -> "Match":
+        return cls(ground, sessions, metrics, resumed.saved, resumed.pipe, resumed.roll, resumed.frame)
+
+    @property
+    def open_players(self) -> int:
+        return len(self._roll.slots)
+
+    async def run(self, stop: asyncio.Event, most: int) -> None:
+        """Plays frames by the clock until `stop` is set or so many frames were played, and then the last."""
+        period = 1 / self.saved.settings.hz
+        due = monotonic() + period
+        while self.frame + 1 < most and not await _is_set_before(stop, due):
+            await self._play_frame(b"frame")
+            done = monotonic()
+            self._metrics.frame_took(done - due)
+            self._sessions.drop_silent(done)
+            due += period
+            if done > due:
+                # The ticks that were missed are counted, and not made up for: time never runs faster.
+                missed = int((done - due) / period) + 1
+                self._metrics.counts["arena_late_frames_total"] += missed
+                due = max(due, done) if missed == 1 else done
+        await self._finish()
+
+    async def _finish(self) -> None:
+        self._sessions.leave_all()
+        await self._play_frame(b"end")
+        rest = await self.pipe.finish()
+        self.saved.add_answer(rest)
+        self.saved.close()
+
+    async def _play_frame(self, closing: bytes) -> None:
+        """Closes the open frame with the packets that came, plays it and tells the clients what came of it."""
+        arrivals = self._sessions.take_arrivals()
+        arrivals += [(port, arena.leave()) for port in self._strangers]
+        self._strangers = []
+        text = frame_text(arrivals, closing)
+        self.saved.add_packets(text)
+        self._roll.begin(len(arrivals), leaves_of(arrivals))
+        await self.pipe.send(text)
+        lines = await self.pipe.read_frame(self._roll)
+        self.saved.add_answer(b"".join(line + b"\n" for line in lines))
+        frame = arena.PlayedFrame(self.frame, 0)
+        for line in lines[1:]:
+            frame.take(line, 0)
+        self._tell(frame, [port for port, _ in arrivals])
+        self.frame += 1
+
+    def _tell(self, frame: arena.PlayedFrame, ports: List[int]) -> None:
+        """Each client gets its snapshot, or that of the slot that it watches, and the frame's events."""
+        for port, slot in frame.joins.items():
+            self._sessions.joined(port, slot)
+        for place, name in frame.refusals.items():
+            self._sessions.refused(ports[place], name)
+        left = self._roll.finish()
+        events = self._events.of(frame, left.values())
+        told = self._told(frame, events)
+        least = min(frame.snapshots, default=None)
+        for session in self._sessions:
+            slot = session.watched if session.watched in frame.snapshots else least
+            if slot is not None:
+                self._sessions.tell(session, SNAPSHOT + frame.snapshots[slot])
+            if told or session.refusals:
+                self._sessions.tell_events(session, told or {"frame": frame.number})
+        for port in [*left, *self._sessions.without_slot(ports)]:
+            self._sessions.left(port)
+        counts = self._metrics.counts
+        counts["arena_frames_total"] += 1
+        counts["arena_joins_total"] += len(frame.joins)
+        counts["arena_moves_total"] += len(frame.moves)
+        self._metrics.gauges.update(arena_players=len(self._roll.slots), arena_watchers=self._sessions.watchers)
+
+    def _told(self, frame: arena.PlayedFrame, events: List[list]) -> Optional[Dict[str, object]]:
+        """The frame's events, and once a second all scores, for those who missed some."""
+        if not events and frame.number % self.saved.settings.hz:
+            return None
+        return {"frame": frame.number, "events": events, "scores": sorted(self._events.scores.items())}
+
+
+async def _is_set_before(event: asyncio.Event, due: float) -> bool:
+    """Waits until the event is set or the time has come, and says whether it is set."""
+    try:
+        await asyncio.wait_for(event.wait(), max(0.0, due - monotonic()))
+    except asyncio.TimeoutError:
+        pass
+    return event.is_set()
