@@ -230,9 +230,10 @@ class Sessions:
         session.send(message)
 
     def tell_events(self, session: Session, told: Dict[str, object]) -> None:
+        """What happened, and of the client itself its slot, or null, and its packets that were refused."""
+        told = {**told, "you": session.slot}
         if session.refusals:
-            told = {**told, "refused": session.refusals}
-            session.refusals = []
+            told["refused"], session.refusals = session.refusals, []
         self.tell(session, EVENTS + json.dumps(told, separators=(",", ":")).encode("ascii"))
 
     def welcome(self, session: Session) -> None:
