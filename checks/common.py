@@ -1,0 +1,22 @@
+"""What the checks share: the folders of the repository, the program and a run of it, and scripts as modules."""
+import importlib.machinery
+import importlib.util
+import os
+import sys
+
+sys.dont_write_bytecode = True
+CHECKS = os.path.dirname(os.path.abspath(__file__))
+TOP = os.path.dirname(CHECKS)
+EXAMPLES = os.path.join(TOP, "examples")
+TOOLS = os.path.join(TOP, "tools")
+sys.path.insert(0, TOOLS)
+from program import PROGRAM, SECONDS, at_most_numbers, begin, files, folders, misused, no_words, run  # noqa: E402,F401
+
+
+def script(folder, name):
+    """A script, whose name has no `.py`, as a module."""
+    loader = importlib.machinery.SourceFileLoader(name, os.path.join(folder, name))
+    module = importlib.util.module_from_spec(importlib.util.spec_from_loader(name, loader))
+    sys.modules[name] = module
+    loader.exec_module(module)
+    return module
