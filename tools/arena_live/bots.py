@@ -64,7 +64,8 @@ class Ways:
 class Bot:
     """One player. `take` is called with each message of the front."""
 
-    def __init__(self, number: int, sessions: Sessions, ground: Arena, ways: Ways, hz: int):
+    def __init__(self, number: int, sessions: Sessions, ground: Arena, ways: Ways):
+        hz = sessions.hz
         self.address = ("bot", number)
         self._sessions, self._map, self._ways = sessions, ground.map, ways
         self._steps = max(1, math.ceil(1000 / hz / arena.MOST_MS))
@@ -171,9 +172,9 @@ def _crosses(block: arena.Box, start: arena.Point, end: arena.Point) -> bool:
 
 
 class Bots:
-    def __init__(self, count: int, sessions: Sessions, ground: Arena, hz: int):
+    def __init__(self, count: int, sessions: Sessions, ground: Arena):
         ways = Ways(ground)
-        self._bots = [Bot(number, sessions, ground, ways, hz) for number in range(count)]
+        self._bots = [Bot(number, sessions, ground, ways) for number in range(count)]
 
     def enter(self) -> None:
         for bot in self._bots:

@@ -11,8 +11,9 @@ import asyncio
 import os
 import signal
 import subprocess
+import sys
 import tempfile
-from typing import List, Tuple
+from typing import Callable, List, Optional, Tuple
 
 import arena
 import program
@@ -36,6 +37,10 @@ ALL_RIGHT, ONE_WRONG, MISUSED, BROKEN_OFF, UNJUDGED = range(5)
 
 class Misuse(Exception):
     """Why the front can't begin, as a sentence."""
+
+
+class BrokenOff(Exception):
+    """Why a match stopped before its end, as a sentence."""
 
 
 def number_from(least: int, most: int):
@@ -76,7 +81,11 @@ def read_words() -> argparse.Namespace:
 
 
 def say(text: str) -> None:
-    print(f"live: {text}", flush=True)
+    """Prints a line. A match goes on without a reader of these."""
+    try:
+        print(f"live: {text}", flush=True)
+    except BrokenPipeError:
+        os.dup2(os.open(os.devnull, os.O_WRONLY), sys.stdout.fileno())
 
 
 class Live:
@@ -85,43 +94,54 @@ class Live:
     def __init__(self, words: argparse.Namespace):
         self._words, self._metrics = words, Metrics()
         self._stop = asyncio.Event()
-        self._folder = words.resume or words.save or tempfile.mkdtemp(prefix="arena-live-")
+        self._folder = words.resume or words.save
         self._judging: List[asyncio.Task] = []
 
     async def run(self) -> int:
+        words = self._words
         for number in (signal.SIGINT, signal.SIGTERM):
             asyncio.get_running_loop().add_signal_handler(number, self._stop.set)
-        ground, sessions, match = await self._begin()
+        if words.resume is not None:
+            resumed = await resume(words.resume, program.PROGRAM)
+            try:
+                ground = Arena(*read_map(resumed.saved.recording_path), program.PROGRAM)
+                sessions = Sessions(self._metrics, resumed.saved.settings.hz)
+                say(f"resumed at frame {resumed.frame}")
+                await self._serve(ground, sessions, lambda: Match.go_on(ground, sessions, self._metrics, resumed))
+            finally:
+                await resumed.pipe.kill()
+        else:
+            ground = Arena(*read_map(words.map), program.PROGRAM)
+            refuse_bad_map(words.map, ground)
+            sessions = Sessions(self._metrics, words.hz)
+            await self._serve(ground, sessions, None)
+        return await self._report()
+
+    async def _serve(self, ground: Arena, sessions: Sessions, go_on: Optional[Callable[[], Match]]) -> None:
+        """Listens, plays, and says goodbye to all."""
         transport, web = None, Web(ground, sessions, self._metrics)
         try:
             transport, http = await self._listen(sessions, web)
+            match = go_on() if go_on is not None else await self._new_match(ground, sessions, 1)
             say(f"the page is http://{self._words.bind}:{http}/ and UDP port {transport.get_extra_info('sockname')[1]}")
             say("Control-C ends the match")
-            Bots(self._words.bots, sessions, ground, match.saved.settings.hz).enter()
+            Bots(self._words.bots, sessions, ground).enter()
             await self._play(ground, sessions, match)
         finally:
             for session in sessions:
                 session.send(GOODBYE + b"over")
-            await asyncio.sleep(0)
+            await asyncio.sleep(0.05)  # so that it is sent
             if transport is not None:
                 transport.close()
             await web.close()
-        return await self._report()
 
-    async def _begin(self) -> Tuple[Arena, Sessions, Match]:
-        """The ground, nobody on it, and the first match."""
-        words = self._words
-        if words.resume is not None:
-            resumed = await resume(words.resume, program.PROGRAM)
-            ground = Arena(*read_map(resumed.saved.recording_path), program.PROGRAM)
-            sessions = Sessions(self._metrics, resumed.saved.settings.hz)
-            say(f"resumed at frame {resumed.frame}")
-            return ground, sessions, Match.go_on(ground, sessions, self._metrics, resumed)
-        ground = Arena(*read_map(words.map), program.PROGRAM)
-        refuse_bad_map(words.map, ground)
-        sessions = Sessions(self._metrics, words.hz)
-        settings = Settings(words.workers, words.hz)
-        return ground, sessions, await Match.begin(ground, sessions, self._metrics, self._folder, settings)
+    async def _new_match(self, ground: Arena, sessions: Sessions, number: int) -> Match:
+        """The first match, or a later one, in a folder of its own."""
+        if self._folder is None:
+            self._folder = tempfile.mkdtemp(prefix="arena-live-")
+        folder = self._folder if number == 1 else f"{self._folder.rstrip('/')}-{number}"
+        settings = Settings(self._words.workers, sessions.hz)
+        return await Match.begin(ground, sessions, self._metrics, folder, settings)
 
     async def _listen(self, sessions: Sessions, web: "Web") -> Tuple[asyncio.DatagramTransport, int]:
         try:
@@ -140,15 +160,17 @@ class Live:
         while True:
             try:
                 await match.run(self._stop, min(words.frames or MOST_FRAMES, words.match))
+            except (ProgramEnded, SaveFault) as why:
+                raise BrokenOff(f"{why}; `--resume {match.saved.folder}` goes on with what was saved") from None
             finally:
                 await match.pipe.kill()
+                match.saved.close()
             self._judging.append(asyncio.create_task(judge(ground.program, match.saved, match.frame)))
             say(f"{match.frame} frames are saved in {match.saved.recording_path} and {match.saved.output_path}")
             if self._stop.is_set() or words.frames is not None:
                 return
             number += 1
-            settings = Settings(words.workers, match.saved.settings.hz)
-            match = await Match.begin(ground, sessions, self._metrics, f"{self._folder.rstrip('/')}-{number}", settings)
+            match = await self._new_match(ground, sessions, number)
 
     async def _report(self) -> int:
         counts, quantile = self._metrics.counts, self._metrics.quantile
@@ -157,6 +179,8 @@ class Live:
             f"{counts['arena_frames_total']} frames, {counts['arena_late_frames_total']} late, {counts['arena_joins_total']} joins, "
             f"{counts['arena_moves_total']} moves; milliseconds from when a frame was due until it was sent: {times}"
         )
+        # From here on Control-C ends the judging.
+        asyncio.get_running_loop().remove_signal_handler(signal.SIGINT)
         verdicts = await asyncio.gather(*self._judging)
         for verdict in verdicts:
             say(str(verdict))
@@ -173,23 +197,25 @@ def refuse_bad_map(path: str, ground: Arena) -> None:
         raise Misuse(f"{path} is no map that the program takes: {said}; `tools/why` says it in words")
 
 
+def why_not() -> Optional[str]:
+    """What this machine lacks, or None."""
+    if Web is None:
+        return "the package aiohttp isn't there for this Python: `apt-get install python3-aiohttp`, and /usr/bin/python3"
+    return program.lacking()
+
+
 def main() -> int:
     words = read_words()
-    why = program.lacking()
-    if why is None and Web is None:
-        why = "the package aiohttp is wanted: `apt-get install python3-aiohttp`, and /usr/bin/python3"
-    live = None
     try:
-        if why is not None:
+        if (why := why_not()) is not None:
             raise Misuse(why)
-        live = Live(words)
-        return asyncio.run(live.run())
-    except (Misuse, arena.FormatError) as why:
-        say(str(why))
+        return asyncio.run(Live(words).run())
+    except (Misuse, SaveFault, ProgramEnded, arena.FormatError) as fault:
+        say(str(fault))
         return MISUSED
-    except SaveFault as why:
-        say(str(why))
-        return MISUSED
-    except ProgramEnded as why:
-        say(f"the match broke off: {why}")
+    except BrokenOff as fault:
+        say(f"the match broke off: {fault}")
         return BROKEN_OFF
+    except KeyboardInterrupt:
+        say("not judged: it was stopped")
+        return UNJUDGED

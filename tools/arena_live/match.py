@@ -46,10 +46,6 @@ class Match:
     def go_on(cls, ground: Arena, sessions: Sessions, metrics: Metrics, resumed: Resumed) -> "Match":
         return cls(ground, sessions, metrics, resumed.saved, resumed.pipe, resumed.roll, resumed.frame)
 
-    @property
-    def open_players(self) -> int:
-        return len(self._roll.slots)
-
     async def run(self, stop: asyncio.Event, most: int) -> None:
         """Plays frames by the clock until `stop` is set or so many frames were played, and then the last."""
         period = 1 / self.saved.settings.hz
@@ -70,9 +66,7 @@ class Match:
     async def _finish(self) -> None:
         self._sessions.leave_all()
         await self._play_frame(b"end")
-        rest = await self.pipe.finish()
-        self.saved.add_answer(rest)
-        self.saved.close()
+        self.saved.add_answer(await self.pipe.finish())
 
     async def _play_frame(self, closing: bytes) -> None:
         """Closes the open frame with the packets that came, plays it and tells the clients what came of it."""

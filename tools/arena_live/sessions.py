@@ -64,7 +64,7 @@ class Sessions:
     """All clients, and the open frame: its packets in the order in which they came."""
 
     def __init__(self, metrics: Metrics, hz: int):
-        self._metrics, self._hz = metrics, hz
+        self._metrics, self.hz = metrics, hz
         self._by_token: Dict[bytes, Session] = {}
         self._by_address: Dict[Hashable, Session] = {}
         self._ports: Dict[int, Session] = {}
@@ -238,7 +238,7 @@ class Sessions:
 
     def welcome(self, session: Session) -> None:
         """The client's token and port, frames a second, and the number of the open frame."""
-        self.tell(session, WELCOME + session.token + struct.pack("<HBI", session.port, self._hz, self.frame))
+        self.tell(session, WELCOME + session.token + struct.pack("<HBI", session.port, self.hz, self.frame))
 
     def _renew(self, session: Session) -> None:
         """A token and a port that nobody has; what was sent for the session of before isn't taken any more."""

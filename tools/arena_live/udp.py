@@ -1,8 +1,11 @@
 """Clients by UDP: a message is a datagram. One that begins with 16 zero bytes asks for a token."""
 import asyncio
+import socket
 from time import monotonic
 
 from arena_live.sessions import NO_TOKEN, TOKEN_BYTES, Sessions
+
+RECEIVE_BUFFER = 1 << 22
 
 
 class Udp(asyncio.DatagramProtocol):
@@ -26,4 +29,6 @@ class Udp(asyncio.DatagramProtocol):
 async def listen(sessions: Sessions, bind: str, port: int) -> asyncio.DatagramTransport:
     loop = asyncio.get_running_loop()
     transport, _ = await loop.create_datagram_endpoint(lambda: Udp(sessions), local_addr=(bind, port))
+    # Room for what comes while a frame is played; the system gives as much of it as it allows.
+    transport.get_extra_info("socket").setsockopt(socket.SOL_SOCKET, socket.SO_RCVBUF, RECEIVE_BUFFER)
     return transport

@@ -577,6 +577,8 @@ class Drawing {
     pen.lineWidth = (isOwn ? 2.5 : 1.5) * this.ratio;
     pen.strokeRect(middleX - side, middleY - side, 2 * side, 2 * side);
     const angle = isOwn ? aimAngle() : match.headings.get(slot)?.angle ?? 0;
+    pen.strokeStyle = isOwn ? "#ffffff" : playerColour(slot);
+    pen.lineWidth = 2.5 * this.ratio;
     this.line(x + 4096 * Math.cos(angle), y + 4096 * Math.sin(angle), x + 9000 * Math.cos(angle), y + 9000 * Math.sin(angle));
     this.heightBar(middleX, middleY, side, z);
     pen.fillStyle = "#14171c";
@@ -592,7 +594,7 @@ class Drawing {
     const { pen } = this, [, , z0, , , z1] = match.map.arena;
     const part = Math.max(0, Math.min(1, (z + PLAYER_BODY[2] - z0) / (z1 - z0))), width = Math.max(3 * this.ratio, 0.35 * side);
     const left = middleX + side + 2 * this.ratio, tall = 2 * side;
-    pen.fillStyle = "#0d0f13";
+    pen.fillStyle = "#59636f";
     pen.fillRect(left, middleY - side, width, tall);
     pen.fillStyle = "#f2f4f8";
     pen.fillRect(left, middleY + side - tall * part, width, tall * part);
