@@ -79,6 +79,7 @@ def _frames(recording: BinaryIO) -> Iterator[List[bytes]]:
 async def _replay(saved: Saved, pipe: Pipe) -> Tuple[Roll, int]:
     """Plays the recording; the output must begin with what was saved, and gets what wasn't."""
     roll, frame = Roll(), 0
+    rest = os.path.getsize(saved.output_path)  # of what was saved
     feeding = asyncio.create_task(_feed(saved.recording_path, pipe))
     try:
         with open(saved.recording_path, "rb") as recording, open(saved.output_path, "rb") as output:
@@ -87,12 +88,13 @@ async def _replay(saved: Saved, pipe: Pipe) -> Tuple[Roll, int]:
                 roll.begin(len(lines), leaves)
                 text = b"".join(line + b"\n" for line in await pipe.read_frame(roll))
                 roll.finish()
-                before = output.read(len(text))
+                before = output.read(min(rest, len(text)))
+                rest -= len(before)
                 if not text.startswith(before):
                     raise SaveFault(f"the saved output isn't what the program answers: frame {frame} differs")
                 saved.add_answer(text[len(before) :])
                 frame += 1
-            if output.read(1):
+            if rest:
                 raise SaveFault("the saved output goes on after the last frame of the recording")
         await feeding
     finally:
