@@ -17,7 +17,6 @@ from typing import Callable, List, Optional, Tuple
 
 import arena
 import program
-from arena_live import udp
 from arena_live.bots import Bots
 from arena_live.match import Arena, Match
 from arena_live.metrics import Metrics
@@ -25,6 +24,7 @@ from arena_live.pipe import ProgramEnded
 from arena_live.resume import resume
 from arena_live.saved import MOST_FRAMES, SaveFault, Settings, read_map
 from arena_live.sessions import GOODBYE, Sessions
+from arena_live.udp import Udp
 from arena_live.verdict import NOT_JUDGED, WRONG, judge
 
 try:
@@ -119,11 +119,11 @@ class Live:
 
     async def _serve(self, ground: Arena, sessions: Sessions, go_on: Optional[Callable[[], Match]]) -> None:
         """Listens, plays, and says goodbye to all."""
-        transport, web = None, Web(ground, sessions, self._metrics)
+        udp, web = None, Web(ground, sessions, self._metrics)
         try:
-            transport, http = await self._listen(sessions, web)
+            udp, http = await self._listen(sessions, web)
             match = go_on() if go_on is not None else await self._new_match(ground, sessions, 1)
-            say(f"the page is http://{self._words.bind}:{http}/ and UDP port {transport.get_extra_info('sockname')[1]}")
+            say(f"the page is http://{self._words.bind}:{http}/ and UDP port {udp.port}")
             say("Control-C ends the match")
             Bots(self._words.bots, sessions, ground).enter()
             await self._play(ground, sessions, match)
@@ -131,8 +131,8 @@ class Live:
             for session in sessions:
                 session.send(GOODBYE + b"over")
             await asyncio.sleep(0.05)  # so that it is sent
-            if transport is not None:
-                transport.close()
+            if udp is not None:
+                udp.close()
             await web.close()
 
     async def _new_match(self, ground: Arena, sessions: Sessions, number: int) -> Match:
@@ -143,16 +143,18 @@ class Live:
         settings = Settings(self._words.workers, sessions.hz)
         return await Match.begin(ground, sessions, self._metrics, folder, settings)
 
-    async def _listen(self, sessions: Sessions, web: "Web") -> Tuple[asyncio.DatagramTransport, int]:
+    async def _listen(self, sessions: Sessions, web: "Web") -> Tuple[Udp, int]:
+        """The UDP socket, and the port of the page."""
+        words = self._words
         try:
-            transport = await udp.listen(sessions, self._words.bind, self._words.udp)
+            udp = Udp(sessions, self._metrics, words.bind, words.udp)
         except OSError as why:
-            raise Misuse(f"UDP port {self._words.udp} of {self._words.bind} can't be had: {why.strerror}") from None
+            raise Misuse(f"UDP port {words.udp} of {words.bind} can't be had: {why.strerror}") from None
         try:
-            return transport, await web.listen(self._words.bind, self._words.http)
+            return udp, await web.listen(words.bind, words.http)
         except OSError as why:
-            transport.close()
-            raise Misuse(f"port {self._words.http} of {self._words.bind} can't be had: {why.strerror}") from None
+            udp.close()
+            raise Misuse(f"port {words.http} of {words.bind} can't be had: {why.strerror}") from None
 
     async def _play(self, ground: Arena, sessions: Sessions, match: Match) -> None:
         """Plays matches until the run is to end; each is judged while the next is played."""

@@ -40,7 +40,7 @@ class Metrics:
             "arena_packets_total": "Packets that were written to the recording.",
             "arena_bytes_in_total": "Bytes of messages from clients.",
             "arena_bytes_out_total": "Bytes of messages to clients.",
-            "arena_dropped_messages_total": "Messages that a slow page didn't get.",
+            "arena_dropped_messages_total": "Messages that a slow page, or a full socket, didn't take.",
         }
         for name, text in helps.items():
             yield from (f"# HELP {name} {text}", f"# TYPE {name} counter", f"{name} {self.counts[name]}")

@@ -44,7 +44,7 @@ class Session:
     slot: Optional[int] = None
     watched: int = 0
     newest: int = 0  # number of the last command that was sent on
-    packets: int = 0  # in the open frame
+    packets: int = 0  # in the open frame, those that weren't recorded too
     moves: int = 0
     credit: float = CREDIT_MS
     credited: float = 0.0
@@ -154,6 +154,7 @@ class Sessions:
             return "front-leaving"
         if session.packets >= PACKETS_A_FRAME:
             return "front-packets"
+        session.packets += 1
         if not session.plays:
             if data != arena.join():
                 return "front-not-joined"
@@ -175,7 +176,6 @@ class Sessions:
         return None
 
     def _add(self, session: Session, data: bytes) -> None:
-        session.packets += 1
         self.arrivals.append((session.port, data))
         self._metrics.counts["arena_packets_total"] += 1
 

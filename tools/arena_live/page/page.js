@@ -649,22 +649,37 @@ function showOwn() {
   element("refusals").textContent = match.refusals;
 }
 
+const rows = new Map();  // of the list of players, by slot
+
+function playerRow(slot) {
+  const row = document.createElement("li"), mark = document.createElement("canvas");
+  const name = document.createElement("span"), points = document.createElement("span");
+  mark.width = mark.height = 12;
+  mark.getContext("2d").fillStyle = playerColour(slot);
+  mark.getContext("2d").fillRect(0, 0, 12, 12);
+  name.className = "name";
+  row.dataset.slot = slot;
+  row.append(mark, name, points);
+  row.addEventListener("click", () => send(0, 1, slot));
+  return row;
+}
+
 function showPlayers() {
-  const rows = [...match.scores].sort((a, b) => b[1] - a[1] || a[0] - b[0]).map(([slot, score]) => {
-    const row = document.createElement("li"), mark = document.createElement("canvas");
-    const name = document.createElement("span"), points = document.createElement("span");
-    mark.width = mark.height = 12;
-    mark.getContext("2d").fillStyle = playerColour(slot);
-    mark.getContext("2d").fillRect(0, 0, 12, 12);
-    name.className = "name";
-    name.textContent = `player ${slot}${slot === match.slot ? " (you)" : ""}${isDown(slot) ? ", down" : ""}`;
-    points.textContent = score;
+  const scores = [...match.scores].sort((a, b) => b[1] - a[1] || a[0] - b[0]);
+  for (const [slot, row] of rows) {
+    if (!match.scores.has(slot)) {
+      row.remove();
+      rows.delete(slot);
+    }
+  }
+  scores.forEach(([slot, score], i) => {
+    if (!rows.has(slot)) rows.set(slot, playerRow(slot));
+    const row = rows.get(slot), list = element("players");
     row.className = match.seen?.slot === slot ? "watched" : "";
-    row.append(mark, name, points);
-    row.addEventListener("click", () => send(0, 1, slot));
-    return row;
+    row.children[1].textContent = `player ${slot}${slot === match.slot ? " (you)" : ""}${isDown(slot) ? ", down" : ""}`;
+    row.children[2].textContent = score;
+    if (list.children[i] !== row) list.insertBefore(row, list.children[i] ?? null);
   });
-  element("players").replaceChildren(...rows);
 }
 
 // ---- All of it.
