@@ -8,6 +8,7 @@ statuses: 0 the match is right; 1 it is wrong; 2 the words, the map or the folde
 """
 import argparse
 import asyncio
+import itertools
 import os
 import signal
 import subprocess
@@ -122,7 +123,7 @@ class Live:
         udp, web = None, Web(ground, sessions, self._metrics)
         try:
             udp, http = await self._listen(sessions, web)
-            match = go_on() if go_on is not None else await self._new_match(ground, sessions, 1)
+            match = go_on() if go_on is not None else await self._new_match(ground, sessions)
             say(f"the page is http://{self._words.bind}:{http}/ and UDP port {udp.port}")
             say("Control-C ends the match")
             Bots(self._words.bots, sessions, ground).enter()
@@ -135,11 +136,14 @@ class Live:
                 udp.close()
             await web.close()
 
-    async def _new_match(self, ground: Arena, sessions: Sessions, number: int) -> Match:
+    async def _new_match(self, ground: Arena, sessions: Sessions) -> Match:
         """The first match, or a later one, in a folder of its own."""
         if self._folder is None:
             self._folder = tempfile.mkdtemp(prefix="arena-live-")
-        folder = self._folder if number == 1 else f"{self._folder.rstrip('/')}-{number}"
+        folder = self._folder
+        if self._judging:
+            numbered = (f"{self._folder.rstrip('/')}-{number}" for number in itertools.count(2))
+            folder = next(folder for folder in numbered if not os.path.exists(folder))
         settings = Settings(self._words.workers, sessions.hz)
         return await Match.begin(ground, sessions, self._metrics, folder, settings)
 
@@ -158,21 +162,20 @@ class Live:
 
     async def _play(self, ground: Arena, sessions: Sessions, match: Match) -> None:
         """Plays matches until the run is to end; each is judged while the next is played."""
-        words, number = self._words, 1
-        while True:
-            try:
+        words = self._words
+        try:
+            while True:
                 await match.run(self._stop, min(words.frames or MOST_FRAMES, words.match))
-            except (ProgramEnded, SaveFault) as why:
-                raise BrokenOff(f"{why}; `--resume {match.saved.folder}` goes on with what was saved") from None
-            finally:
-                await match.pipe.kill()
                 match.saved.close()
-            self._judging.append(asyncio.create_task(judge(ground.program, match.saved, match.frame)))
-            say(f"{match.frame} frames are saved in {match.saved.recording_path} and {match.saved.output_path}")
-            if self._stop.is_set() or words.frames is not None:
-                return
-            number += 1
-            match = await self._new_match(ground, sessions, number)
+                self._judging.append(asyncio.create_task(judge(ground.program, match.saved, match.frame)))
+                say(f"{match.frame} frames are saved in {match.saved.recording_path} and {match.saved.output_path}")
+                if self._stop.is_set() or words.frames is not None:
+                    return
+                match = await self._new_match(ground, sessions)
+        except (ProgramEnded, SaveFault) as why:
+            raise BrokenOff(f"{why}; `--resume {match.saved.folder}` goes on with what was saved") from None
+        finally:
+            await match.pipe.kill()
 
     async def _report(self) -> int:
         counts, quantile = self._metrics.counts, self._metrics.quantile

@@ -59,9 +59,15 @@ async def _judged_by(program: str, word: str, text: Iterable[bytes]) -> Verdict:
 
 async def _feed(process: asyncio.subprocess.Process, text: Iterable[bytes]) -> None:
     try:
-        for chunk in text:
-            process.stdin.write(chunk)
-            await process.stdin.drain()
+        piece = bytearray()
+        for part in text:
+            piece += part
+            if len(piece) >= CHUNK:
+                process.stdin.write(bytes(piece))
+                await process.stdin.drain()
+                piece.clear()
+        process.stdin.write(bytes(piece))
+        await process.stdin.drain()
         process.stdin.close()
     except (BrokenPipeError, ConnectionResetError):
         pass  # It reads no further than it must.
