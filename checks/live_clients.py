@@ -115,7 +115,9 @@ class Client(asyncio.DatagramProtocol):
     async def play(self, until: float) -> None:
         """A command every 50 milliseconds, and at the end the last ones again until they are shown."""
         await self.enter(until)
-        due = monotonic()
+        # Clients' clocks don't go together.
+        due = monotonic() + self.rng.uniform(0, STEP_SECONDS)
+        await asyncio.sleep(due - monotonic())
         while due < until:
             self.step()
             due += STEP_SECONDS

@@ -120,20 +120,32 @@ class Bot:
             self._way, self._heading = [], random.uniform(-math.pi, math.pi)
         if not self._way:
             if self._planning is None or self._planning.done():
-                self._planning = asyncio.get_running_loop().create_task(self._plan(seen.origin))
+                self._planning = asyncio.get_running_loop().create_task(self._plan(seen))
             angle = self._heading
         else:
             angle = math.atan2(self._way[0][1] - y, self._way[0][0] - x)
         buttons = arena.JUMP if self._heading is not None and random.random() < 0.1 else 0
         return (self._ms, *((0, 0) if angle is None else _wish(angle)), buttons)
 
-    async def _plan(self, origin: arena.Point) -> None:
-        """Finds the next way; where there is none, or after it was stuck, it walks anywhere for a while."""
+    async def _plan(self, seen: arena.Snapshot) -> None:
+        """Finds the next way; where there is none, or after it was stuck, it walks anywhere for a while.
+
+        With gems it goes straight to a goal, if one is near, unless it just was stuck.
+        """
         if self._heading is not None:
             await asyncio.sleep(random.uniform(0.3, 1.0))
-        way = await self._ways.between(self._ways.nearest(origin), self._ways.random_spawn())
+        elif seen.carry and (goal := self._near_goal(seen.origin)) is not None:
+            self._way = [goal]
+            return
+        way = await self._ways.between(self._ways.nearest(seen.origin), self._ways.random_spawn())
         self._heading = random.uniform(-math.pi, math.pi) if way is None else None
         self._way = list(way or [])
+
+    def _near_goal(self, origin: arena.Point) -> Optional[Tuple[int, int]]:
+        boxes = [thing.box for thing in self._map.things if thing.kind == "goal"]
+        middles = [((box[0] + box[3]) // 2, (box[1] + box[4]) // 2) for box in boxes]
+        near = [middle for middle in middles if math.dist(middle, origin[:2]) < RANGE]
+        return min(near, key=lambda middle: math.dist(middle, origin[:2]), default=None)
 
     def _aim(self, seen: arena.Snapshot) -> Optional[float]:
         """The direction of the nearest player that a shot could reach."""

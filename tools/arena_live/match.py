@@ -57,10 +57,9 @@ class Match:
             self._sessions.drop_silent(done)
             due += period
             if done > due:
-                # The ticks that were missed are counted, and not made up for: time never runs faster.
-                missed = int((done - due) / period) + 1
-                self._metrics.counts["arena_late_frames_total"] += missed
-                due = max(due, done) if missed == 1 else done
+                # This frame and the ticks that were missed are counted, and not made up for: time never runs faster.
+                self._metrics.counts["arena_late_frames_total"] += int((done - due) / period) + 1
+                due = done
         await self._finish()
 
     async def _finish(self) -> None:

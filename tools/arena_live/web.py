@@ -2,6 +2,7 @@
 import asyncio
 import itertools
 import os
+from contextlib import suppress
 from time import monotonic
 from urllib.parse import urlsplit
 
@@ -9,7 +10,7 @@ from aiohttp import WSMsgType, web
 
 from arena_live.match import Arena
 from arena_live.metrics import Metrics
-from arena_live.sessions import MOST_MESSAGE, Sessions
+from arena_live.sessions import GOODBYE, MOST_MESSAGE, Sessions
 
 PAGE = os.path.join(os.path.dirname(os.path.abspath(__file__)), "page")
 # The paths that are answered; all others are not found.
@@ -44,8 +45,13 @@ class Outbox:
         self._queue.put_nowait(message)
 
     async def send_to(self, socket: web.WebSocketResponse) -> None:
-        while True:
-            await socket.send_bytes(await self._queue.get())
+        """Sends until the last message, a goodbye, or until nobody is there any more."""
+        message = b""
+        with suppress(ConnectionResetError):
+            while message[:1] != GOODBYE:
+                message = await self._queue.get()
+                await socket.send_bytes(message)
+            await socket.close()
 
 
 class Web:
@@ -96,7 +102,7 @@ class Web:
         sending = asyncio.create_task(outbox.send_to(socket))
         try:
             if self._sessions.open(address, "page", outbox.put, monotonic()) is None:
-                await asyncio.sleep(0.1)
+                await sending
                 return socket
             async for message in socket:
                 if message.type != WSMsgType.BINARY:

@@ -306,17 +306,17 @@ function takeEvents(told) {
   showPlayers();
 }
 
-function takeEvent([name, slot, other, thing], frame) {
-  if (name === "joined") addLine(`${slot} joined`);
-  if (name === "left") addLine(`${slot} left`);
-  if (name === "took") addLine(`${slot} took ${other === "ammo" ? "ammunition" : "a gem"}`);
+function takeEvent([name, slot, other], frame) {
+  if (name === "joined") addLine(`player ${slot} joined`);
+  if (name === "left") addLine(`player ${slot} left`);
+  if (name === "took") addLine(`player ${slot} took ${other === "ammo" ? "ammunition" : "a gem"}`);
   if (name === "hit" || name === "down") {
-    addLine(name === "hit" ? `${other} hit ${slot}` : `${slot} fell, hit by ${other}`);
+    addLine(name === "hit" ? `player ${other} hit player ${slot}` : `player ${slot} fell, hit by player ${other}`);
     match.shots.push({ from: placeOf(other), to: placeOf(slot), until: performance.now() + 300 });
     if (name === "down") match.downUntil.set(slot, frame + FALL_FRAMES);
   }
   if (name === "score") match.scores.set(slot, other);
-  if (name === "score" && other > 0) addLine(`${slot} has score ${other}`);
+  if (name === "score" && other > 0) addLine(`player ${slot} has score ${other}`);
   if (name === "left") match.scores.delete(slot);
 }
 
