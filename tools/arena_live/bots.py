@@ -1,7 +1,7 @@
 """Players that the front brings itself: they walk shortest ways between spawns and shoot at whom they see.
 
 A bot is a client as any other, without a socket: it gets its snapshots and sends packets. Its ways are planned by
-`arena_cli bots TARGET`, which plans from the first spawn of a map; so the map is handed to it with the bot's spawn first.
+`arena_cli bots TARGET`, which plans from the first spawn of a map; so it is handed the map with the bot's spawn first.
 """
 import asyncio
 import math

@@ -1,10 +1,10 @@
 """tools/live: lets people play on a map, in a browser or by UDP, and judges what they played.
 
-The program plays; this stands between it and the players' sockets, saves what came and what was answered, and at the end
-prints whether the one is right for the other. docs/LIVE.md has how, and what a client must know.
+The program plays; this stands between it and the players' sockets, saves what came and what was answered, and at the
+end prints whether the one is right for the other. docs/LIVE.md has how, and what a client must know.
 
-statuses: 0 the match is right; 1 it is wrong; 2 the words, the map or the folder can't be used; 3 the match broke off, and
-`--resume` goes on with it; 4 it wasn't judged.
+statuses: 0 each match is right; 1 one is wrong; 2 the words, the map or the folder can't be used; 3 a match broke off,
+and `--resume` goes on with it; 4 one wasn't judged.
 """
 import argparse
 import asyncio
@@ -23,7 +23,7 @@ from arena_live.match import Arena, Match
 from arena_live.metrics import Metrics
 from arena_live.pipe import ProgramEnded
 from arena_live.resume import resume
-from arena_live.saved import MOST_FRAMES, SaveFault, Settings, read_map
+from arena_live.saved import MOST_FRAMES, Saved, SaveFault, Settings, read_map
 from arena_live.sessions import GOODBYE, Sessions
 from arena_live.udp import Udp
 from arena_live.verdict import NOT_JUDGED, WRONG, judge
@@ -54,27 +54,22 @@ def number_from(least: int, most: int):
 
 
 def read_words() -> argparse.Namespace:
-    parser = argparse.ArgumentParser(
-        "live", description=__doc__, formatter_class=argparse.RawDescriptionHelpFormatter, allow_abbrev=False
-    )
+    shape = argparse.RawDescriptionHelpFormatter
+    parser = argparse.ArgumentParser("live", description=__doc__, formatter_class=shape, allow_abbrev=False)
+    a_port, a_match = number_from(0, 65535), number_from(1, MOST_FRAMES)
     add = parser.add_argument
-    add("map", metavar="MAP", nargs="?", help="a file with the lines of a map; those of a recording before its first frame are one")
-    add("--bots", metavar="K", type=number_from(0, 64), default=0, help="so many players that the front brings (default 0)")
+    add("map", metavar="MAP", nargs="?", help="a file with the lines of a map, as they begin each recording")
+    add("--bots", metavar="K", type=number_from(0, 64), default=0, help="players that the front brings (default 0)")
     add("--workers", metavar="N", type=number_from(1, 16), default=1, help="workers of the program (default 1)")
     add("--hz", metavar="F", type=number_from(1, 100), default=20, help="frames a second (default 20)")
-    add("--http", metavar="PORT", type=number_from(0, 65535), default=8765, help="of the page; 0 takes a free one (default 8765)")
-    add("--udp", metavar="PORT", type=number_from(0, 65535), default=27500, help="of UDP; 0 takes a free one (default 27500)")
-    add("--bind", metavar="ADDRESS", default="127.0.0.1", help="where both listen (default 127.0.0.1: this machine alone)")
+    add("--http", metavar="PORT", type=a_port, default=8765, help="of the page; 0 takes a free one (default 8765)")
+    add("--udp", metavar="PORT", type=a_port, default=27500, help="of UDP; 0 takes a free one (default 27500)")
+    add("--bind", metavar="ADDRESS", default="127.0.0.1", help="where both listen (default 127.0.0.1, this machine)")
     add("--save", metavar="FOLDER", help="where the match is saved (default: a new folder among the temporary files)")
     add("--resume", metavar="FOLDER", help="go on with the match that was saved there, in place of MAP")
-    add("--frames", metavar="N", type=number_from(1, MOST_FRAMES), help="end when the match has so many frames")
-    add(
-        "--match",
-        metavar="N",
-        type=number_from(1, MOST_FRAMES),
-        default=MOST_FRAMES,
-        help="frames of a match; then a new one begins, in FOLDER-2 and so on (default 100000, the most of a recording)",
-    )
+    add("--frames", metavar="N", type=a_match, help="end when the match has so many frames")
+    next_match = "frames of a match; then a new one begins, in FOLDER-2 and so on (default 100000, the most)"
+    add("--match", metavar="N", type=a_match, default=MOST_FRAMES, help=next_match)
     words = parser.parse_args()
     if (words.map is None) == (words.resume is None):
         parser.error("one of MAP and --resume FOLDER is wanted")
@@ -108,7 +103,7 @@ class Live:
                 ground = Arena(*read_map(resumed.saved.recording_path), program.PROGRAM)
                 sessions = Sessions(self._metrics, resumed.saved.settings.hz)
                 say(f"resumed at frame {resumed.frame}")
-                await self._serve(ground, sessions, lambda: Match.go_on(ground, sessions, self._metrics, resumed))
+                await self._serve(ground, sessions, lambda: Match(ground, sessions, self._metrics, resumed))
             finally:
                 await resumed.pipe.kill()
         else:
@@ -144,8 +139,8 @@ class Live:
         if self._judging:
             numbered = (f"{self._folder.rstrip('/')}-{number}" for number in itertools.count(2))
             folder = next(folder for folder in numbered if not os.path.exists(folder))
-        settings = Settings(self._words.workers, sessions.hz)
-        return await Match.begin(ground, sessions, self._metrics, folder, settings)
+        saved = Saved.create(folder, ground.lines, Settings(self._words.workers, sessions.hz))
+        return await Match.begin(ground, sessions, self._metrics, saved)
 
     async def _listen(self, sessions: Sessions, web: "Web") -> Tuple[Udp, int]:
         """The UDP socket, and the port of the page."""
@@ -178,12 +173,11 @@ class Live:
             await match.pipe.kill()
 
     async def _report(self) -> int:
-        counts, quantile = self._metrics.counts, self._metrics.quantile
-        times = ", ".join(f"{name} {1000 * quantile(part):.1f}" for name, part in (("median", 0.5), ("99th", 0.99), ("worst", 1)))
-        say(
-            f"{counts['arena_frames_total']} frames, {counts['arena_late_frames_total']} late, {counts['arena_joins_total']} joins, "
-            f"{counts['arena_moves_total']} moves; milliseconds from when a frame was due until it was sent: {times}"
-        )
+        parts = {"median": 0.5, "99th": 0.99, "worst": 1}
+        times = ", ".join(f"{name} {1000 * self._metrics.quantile(part):.1f}" for name, part in parts.items())
+        counts = (self._metrics.counts[f"arena_{name}_total"] for name in ("frames", "late_frames", "joins", "moves"))
+        said = "{} frames, {} late, {} joins, {} moves".format(*counts)
+        say(f"{said}; milliseconds from when a frame was due until it was sent: {times}")
         # From here on Control-C ends the judging.
         asyncio.get_running_loop().remove_signal_handler(signal.SIGINT)
         verdicts = await asyncio.gather(*self._judging)
@@ -205,7 +199,7 @@ def refuse_bad_map(path: str, ground: Arena) -> None:
 def why_not() -> Optional[str]:
     """What this machine lacks, or None."""
     if Web is None:
-        return "the package aiohttp isn't there for this Python: `apt-get install python3-aiohttp`, and /usr/bin/python3"
+        return f"{sys.executable} has no aiohttp: `apt-get install python3-aiohttp`, and run it by /usr/bin/python3"
     return program.lacking()
 
 

@@ -11,7 +11,7 @@ from arena_live.metrics import Metrics
 from arena_live.pipe import Pipe
 from arena_live.resume import Resumed
 from arena_live.roll import Roll, leaves_of
-from arena_live.saved import Saved, Settings, frame_text
+from arena_live.saved import Saved, frame_text
 from arena_live.sessions import SNAPSHOT, Sessions
 
 
@@ -27,24 +27,20 @@ class Arena:
 class Match:
     """One run of the program, from the first frame to the line `end`."""
 
-    def __init__(self, ground: Arena, sessions: Sessions, metrics: Metrics, saved: Saved, pipe: Pipe, roll: Roll, frame: int):
+    def __init__(self, ground: Arena, sessions: Sessions, metrics: Metrics, start: Resumed):
         self._sessions, self._metrics = sessions, metrics
-        self.saved, self.pipe, self._roll = saved, pipe, roll
+        self.saved, self.pipe, self._roll = start.saved, start.pipe, start.roll
         self._events = Events(ground.map)
         # Players of before a resume, whose clients are gone: they leave in the first frame.
-        self._strangers = list(roll.slots)
-        self.frame = sessions.frame = frame
+        self._strangers = list(start.roll.slots)
+        self.frame = sessions.frame = start.frame
 
-    @classmethod
-    async def begin(cls, ground: Arena, sessions: Sessions, metrics: Metrics, folder: str, settings: Settings) -> "Match":
-        saved = Saved.create(folder, ground.lines, settings)
-        pipe = await Pipe.start(ground.program, settings.workers)
+    @staticmethod
+    async def begin(ground: Arena, sessions: Sessions, metrics: Metrics, saved: Saved) -> "Match":
+        """A new match, whose folder has the map alone."""
+        pipe = await Pipe.start(ground.program, saved.settings.workers)
         await pipe.send(saved.opening(ground.lines))
-        return cls(ground, sessions, metrics, saved, pipe, Roll(), 0)
-
-    @classmethod
-    def go_on(cls, ground: Arena, sessions: Sessions, metrics: Metrics, resumed: Resumed) -> "Match":
-        return cls(ground, sessions, metrics, resumed.saved, resumed.pipe, resumed.roll, resumed.frame)
+        return Match(ground, sessions, metrics, Resumed(saved, pipe, Roll(), 0))
 
     async def run(self, stop: asyncio.Event, most: int) -> None:
         """Plays frames by the clock until `stop` is set or so many frames were played, and then the last."""

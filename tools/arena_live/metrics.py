@@ -33,7 +33,7 @@ class Metrics:
     def _lines(self) -> Iterator[str]:
         helps = {
             "arena_frames_total": "Frames that were played.",
-            "arena_late_frames_total": "Frames that were answered after the next one was due, and ticks that were missed.",
+            "arena_late_frames_total": "Frames that were answered after the next was due, and ticks that were missed.",
             "arena_joins_total": "Joins that the program accepted.",
             "arena_moves_total": "Moves that the program ran.",
             "arena_messages_in_total": "Messages from clients, those of bots among them.",
@@ -54,7 +54,8 @@ class Metrics:
 
     def _histogram(self) -> List[str]:
         name = "arena_frame_seconds"
-        lines = [f"# HELP {name} Seconds from when a frame was due until its answers were sent.", f"# TYPE {name} histogram"]
+        lines = [f"# HELP {name} Seconds from when a frame was due until its answers were sent."]
+        lines.append(f"# TYPE {name} histogram")
         below = 0
         for bound, count in zip((*BOUNDS, "+Inf"), self._buckets):
             below += count

@@ -1,10 +1,11 @@
 """The program on its pipe.
 
-The program runs a frame when it reads the `frame` line of the next one, or `end`, and has written all of the frame's text
-before it reads on. So a frame is always open: its packets are written followed by the next `frame` line, and the answer is
-there.
+The program runs a frame when it reads the `frame` line of the next one, or `end`, and has written all of the frame's
+text before it reads on. So a frame is always open: its packets are written, followed by the next `frame` line, and the
+answer is there.
 """
 import asyncio
+from contextlib import suppress
 from typing import List
 
 from arena_live.roll import Roll
@@ -82,3 +83,11 @@ class Pipe:
         if self._process.returncode is None:
             self._process.kill()
             await self._process.wait()
+        await close_input(self._process)
+
+
+async def close_input(process: asyncio.subprocess.Process) -> None:
+    """Closes the input of a process, which may be gone before it has read all of it."""
+    process.stdin.close()
+    with suppress(BrokenPipeError, ConnectionResetError):
+        await process.stdin.wait_closed()

@@ -1,9 +1,9 @@
 """Goes on with a saved match: its recording is played again, and what the program answers must be what was saved.
 
 One worker plays a recording always in the same way. Several workers may run the moves of a frame in another order each
-time; so the recording of their match is first rewritten in the order that the saved output shows, as one worker plays it,
-and one worker goes on. The moves and snapshots stay those that clients saw; only the `no` lines go, with the packets that
-were refused. The files of before stay beside the new ones.
+time; so the recording of their match is first rewritten in the order that the saved output shows, as one worker plays
+it, and one worker goes on. The moves and snapshots stay those that clients saw; only the `no` lines go, with the
+packets that were refused. The files of before stay beside the new ones.
 """
 import asyncio
 import os
@@ -17,6 +17,7 @@ from arena_live.roll import Roll, leaves_of
 from arena_live.saved import Saved, SaveFault, Settings, frame_text
 
 FRAME = b"frame\n"
+Commands = Dict[Tuple[int, int], arena.Command]  # by port and number
 
 
 @dataclass
@@ -49,7 +50,7 @@ async def resume(folder: str, program: str) -> Resumed:
 
 
 def _cut_open_frame(path: str) -> None:
-    """Cuts what follows the last line `frame`: packets of a frame that was never run, perhaps in the middle of a line."""
+    """Cuts what follows the last line `frame`: packets of a frame that was never run, the last one perhaps in part."""
     with open(path, "r+b") as file:
         size = file.seek(0, os.SEEK_END)
         file.seek(max(0, size - CHUNK))
@@ -129,7 +130,7 @@ def _write_in_order(recording: BinaryIO, output: BinaryIO, new_recording: Binary
     recording.seek(0)
     roll, is_whole = Roll(), True
     for lines in _frames(recording):
-        arrivals = [(int(port), bytes.fromhex(data.decode().strip().strip("-"))) for _, port, data in (line.split(b" ") for line in lines)]
+        arrivals = [_arrival(line) for line in lines]
         text = _whole_frame(output, roll, arrivals) if is_whole else None
         is_whole = text is not None
         if is_whole:
@@ -137,6 +138,11 @@ def _write_in_order(recording: BinaryIO, output: BinaryIO, new_recording: Binary
             new_output.writelines(line + b"\n" for line in text if not line.startswith(b"no "))
             roll.finish()
         new_recording.write(frame_text(arrivals, b"frame"))
+
+
+def _arrival(line: bytes) -> Tuple[int, bytes]:
+    _, port, data = line.decode("ascii").split()
+    return int(port), b"" if data == "-" else bytes.fromhex(data)
 
 
 def _whole_frame(output: BinaryIO, roll: Roll, arrivals: List[Tuple[int, bytes]]) -> Optional[List[bytes]]:
@@ -153,7 +159,7 @@ def _whole_frame(output: BinaryIO, roll: Roll, arrivals: List[Tuple[int, bytes]]
 
 
 def _in_order(text: List[bytes], arrivals: List[Tuple[int, bytes]], roll: Roll) -> List[Tuple[int, bytes]]:
-    """The frame's packets that count: its joins, each move by itself in the order that the text shows, and its leaves."""
+    """The frame's packets that count: its joins, each move by itself in the order of the text, and its leaves."""
     frame = arena.PlayedFrame(0, 0)
     for line in text[1:]:
         frame.take(line, 0)
@@ -164,9 +170,9 @@ def _in_order(text: List[bytes], arrivals: List[Tuple[int, bytes]], roll: Roll) 
     return joins + moves + [(port, arena.leave()) for port in roll.leaving()]
 
 
-def _accepted_commands(arrivals: List[Tuple[int, bytes]], refusals: Dict[int, str]) -> Dict[Tuple[int, int], arena.Command]:
-    """The commands of the packets that weren't refused, by port and number: each where it came first."""
-    commands: Dict[Tuple[int, int], arena.Command] = {}
+def _accepted_commands(arrivals: List[Tuple[int, bytes]], refusals: Dict[int, str]) -> Commands:
+    """The commands of the packets that weren't refused: each where it came first."""
+    commands: Commands = {}
     for place, (port, data) in enumerate(arrivals):
         if place not in refusals:
             for command in arena.read_packet(data).commands:

@@ -7,8 +7,9 @@ LEAVE = b"\x01\x03"
 class Roll:
     """The slots of the ports that have joined.
 
-    `begin` is given the packets of a frame, and then `take` each line of its text. The text is complete with as many `to`
-    lines as there were players before the frame and `joined` lines in it; where that is none, with one `no` line a packet.
+    `begin` is given the packets of a frame, and then `take` each line of its text. The text is complete with as many
+    `to` lines as there were players before the frame and `joined` lines in it; where that is none, with one `no` line a
+    packet.
     """
 
     def __init__(self):

@@ -1,7 +1,7 @@
 """The folder of a match: `match.demo`, its recording, `match.out`, its output, and `match.json`, how it is played.
 
 A frame's packets are in the recording before the program gets them, and its text is in the output before a client sees
-anything of it. Both are handed to the system at once, so they outlive the front and the program, but not a loss of power.
+anything of it. Both are handed to the system at once, so they outlive the front and the program, but no loss of power.
 """
 import fcntl
 import json

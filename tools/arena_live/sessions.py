@@ -187,7 +187,7 @@ class Sessions:
     # What a frame does.
 
     def take_arrivals(self) -> List[Tuple[int, bytes]]:
-        """The packets of the open frame, which is closed now; the next is open, and each client may send as many again."""
+        """The packets of the open frame, which is closed now; each client may send as many again in the next."""
         arrivals, self.arrivals = self.arrivals, []
         self.frame += 1
         for session in self._ports.values():

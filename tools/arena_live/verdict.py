@@ -1,13 +1,15 @@
 """Whether a saved match is right: that its output is one that the program may write for its recording.
 
-`audit`, where the program has it, judges a match of any length, `check` one of at most 2,000 frames. Without `audit` a longer
-match of one worker is played again and compared, byte for byte; one of several workers isn't judged.
+`audit`, where the program has it, judges a match of any length, `check` one of at most 2,000 frames. Without `audit` a
+longer match of one worker is played again and compared, byte for byte; one of several workers isn't judged.
 """
 import asyncio
 import os
+from contextlib import suppress
 from dataclasses import dataclass
 from typing import BinaryIO, Iterable
 
+from arena_live.pipe import close_input
 from arena_live.saved import Saved
 
 CHECK_FRAMES = 2_000
@@ -31,7 +33,8 @@ async def judge(program: str, saved: Saved, frames: int) -> Verdict:
         return await _judged_by(program, "check", _recording_and_output(saved))
     if saved.settings.workers == 1:
         return await _replayed(program, saved, frames)
-    return Verdict(NOT_JUDGED, f"{frames} frames on several workers are more than `check` reads, and the program has no `audit`")
+    why = f"{frames} frames on several workers are more than `check` reads, and the program has no `audit`"
+    return Verdict(NOT_JUDGED, why)
 
 
 async def _has_audit(program: str) -> bool:
@@ -58,7 +61,8 @@ async def _judged_by(program: str, word: str, text: Iterable[bytes]) -> Verdict:
 
 
 async def _feed(process: asyncio.subprocess.Process, text: Iterable[bytes]) -> None:
-    try:
+    # It reads no further than it must, and is gone then.
+    with suppress(BrokenPipeError, ConnectionResetError):
         piece = bytearray()
         for part in text:
             piece += part
@@ -68,9 +72,7 @@ async def _feed(process: asyncio.subprocess.Process, text: Iterable[bytes]) -> N
                 piece.clear()
         process.stdin.write(bytes(piece))
         await process.stdin.drain()
-        process.stdin.close()
-    except (BrokenPipeError, ConnectionResetError):
-        pass  # It reads no further than it must.
+    await close_input(process)
 
 
 def _chunks(path: str) -> Iterable[bytes]:
@@ -114,7 +116,8 @@ async def _replayed(program: str, saved: Saved, frames: int) -> Verdict:
     status = await process.wait()
     await feeding
     if is_same and status == 0:
-        return Verdict(RIGHT, f"`play 1` writes the same {os.path.getsize(saved.output_path)} bytes for the {frames} frames again")
+        size = os.path.getsize(saved.output_path)
+        return Verdict(RIGHT, f"`play 1` writes the same {size} bytes for the {frames} frames again")
     return Verdict(WRONG, "`play 1` writes something else for the recording")
 
 

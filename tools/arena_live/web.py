@@ -21,13 +21,13 @@ FILES = {
     "/icon.svg": ("icon.svg", "image/svg+xml"),
 }
 HEADERS = {
-    "Content-Security-Policy": "default-src 'none'; script-src 'self'; style-src 'self'; connect-src 'self'; img-src 'self';"
-    " base-uri 'none'; form-action 'none'; frame-ancestors 'none'",
+    "Content-Security-Policy": "default-src 'none'; script-src 'self'; style-src 'self'; connect-src 'self';"
+    " img-src 'self'; base-uri 'none'; form-action 'none'; frame-ancestors 'none'",
     "X-Content-Type-Options": "nosniff",
     "Referrer-Policy": "no-referrer",
     "Cache-Control": "no-cache",
 }
-# Messages that wait for a slow page; with more the oldest is dropped. Each snapshot is whole, and the scores come again.
+# Messages that wait for a slow page; with more the oldest is dropped. Snapshots are whole, and the scores come again.
 MOST_WAITING = 40
 
 
@@ -89,7 +89,8 @@ class Web:
         return web.Response(body=self._map, content_type="text/plain")
 
     async def _send_metrics(self, request: web.Request) -> web.StreamResponse:
-        return web.Response(text=self._metrics.text(), headers={"Content-Type": "text/plain; version=0.0.4; charset=utf-8"})
+        headers = {"Content-Type": "text/plain; version=0.0.4; charset=utf-8"}
+        return web.Response(text=self._metrics.text(), headers=headers)
 
     async def _live(self, request: web.Request) -> web.StreamResponse:
         """A client of its own for each socket; a page of another site gets none."""

@@ -1,7 +1,7 @@
 // The page of the live front: it shows the arena, sends what is pressed, and shows its own player's motion at once.
 //
-// In this order: what comes as bytes, the rules of a move (for the own player alone), the socket, the keys, the drawing and
-// the panel. docs/FORMATS.md has the bytes and the rules, docs/LIVE.md the messages. Lengths are in sub-units.
+// In this order: what comes as bytes, the rules of a move (for the own player alone), the match, the socket, the keys, the
+// drawing and the panel. docs/FORMATS.md has the bytes and the rules, docs/LIVE.md the messages. Lengths are in sub-units.
 
 // ---- What comes as bytes.
 
@@ -21,7 +21,7 @@ export function readMap(text) {
     else if (word === "block") map.blocks.push(numbers);
     else if (word === "spawn") map.spawns.push(numbers);
     else if (word === "item") map.things.push({ kind: fields[3], origin: numbers.slice(0, 3) });
-    else if (word === "teleport") map.things.push({ kind: "teleporter", box: numbers.slice(0, 6), to: numbers.slice(6) });
+    else if (word === "teleport") map.things.push({ kind: "teleporter", box: numbers.slice(0, 6), to: numbers.slice(6, 9) });
     else if (word === "goal") map.things.push({ kind: "goal", box: numbers });
     else if (word === "lift") map.things.push({ kind: "lift", box: numbers.slice(0, 6), rise: numbers[6] });
   }
@@ -217,9 +217,9 @@ function takeSnapshot(seen, now) {
 }
 
 function noteHeading(id, origin) {
-  const last = match.headings.get(id), x = origin[0] - (last ? last.x : origin[0]), y = origin[1] - (last ? last.y : origin[1]);
-  const angle = Math.hypot(x, y) > 200 ? Math.atan2(y, x) : last ? last.angle : 0;
-  match.headings.set(id, { x: origin[0], y: origin[1], angle });
+  const last = match.headings.get(id) ?? { x: origin[0], y: origin[1], angle: 0 };
+  const x = origin[0] - last.x, y = origin[1] - last.y;
+  match.headings.set(id, { x: origin[0], y: origin[1], angle: Math.hypot(x, y) > 200 ? Math.atan2(y, x) : last.angle });
 }
 
 function correctOwn(seen, now) {
@@ -328,7 +328,10 @@ function placeOf(slot) {
 
 // ---- The keys.
 
-const WALK = { KeyW: [0, 1], ArrowUp: [0, 1], KeyS: [0, -1], ArrowDown: [0, -1], KeyA: [-1, 0], ArrowLeft: [-1, 0], KeyD: [1, 0], ArrowRight: [1, 0] };
+const WALK = {
+  KeyW: [0, 1], ArrowUp: [0, 1], KeyS: [0, -1], ArrowDown: [0, -1],
+  KeyA: [-1, 0], ArrowLeft: [-1, 0], KeyD: [1, 0], ArrowRight: [1, 0],
+};
 const WISH = 320, SHOT_PAUSE = 150;
 const keys = { down: new Set(), walked: 0, pointer: null, pressed: false, shotAt: 0, isNear: false };
 
@@ -357,7 +360,8 @@ function nextCommands(ms, now) {
   if (!wantsShot || now - keys.shotAt < SHOT_PAUSE) return [walk];
   keys.shotAt = now;
   const aim = aimAngle(), [x, y, z] = own.state.origin;
-  match.shots.push({ from: [x, y, z], to: [x + 20000 * Math.cos(aim), y + 20000 * Math.sin(aim), z], until: now + 120, isOwn: true });
+  const to = [x + 20000 * Math.cos(aim), y + 20000 * Math.sin(aim), z];
+  match.shots.push({ from: [x, y, z], to, until: now + 120, isOwn: true });
   return [{ ...walk, ms: ms - 1 }, { ms: 1, ...wishOf(aim), buttons: SHOOT }];
 }
 
@@ -562,7 +566,9 @@ class Drawing {
     if (match.seen === null) return;
     const part = Math.min(1, (now - match.seenAt) / match.period);
     for (const entity of match.seen.entities.values()) {
-      if (entity.kind === "player") this.player(entity.id, between(match.before?.entities.get(entity.id)?.origin, entity.origin, part));
+      if (entity.kind !== "player") continue;
+      const before = match.before?.entities.get(entity.id)?.origin;
+      this.player(entity.id, between(before, entity.origin, part));
     }
     this.player(match.seen.slot, ownPlace(now));
   }
@@ -579,7 +585,8 @@ class Drawing {
     const angle = isOwn ? aimAngle() : match.headings.get(slot)?.angle ?? 0;
     pen.strokeStyle = isOwn ? "#ffffff" : playerColour(slot);
     pen.lineWidth = 2.5 * this.ratio;
-    this.line(x + 4096 * Math.cos(angle), y + 4096 * Math.sin(angle), x + 9000 * Math.cos(angle), y + 9000 * Math.sin(angle));
+    const alongX = Math.cos(angle), alongY = Math.sin(angle);
+    this.line(x + 4096 * alongX, y + 4096 * alongY, x + 9000 * alongX, y + 9000 * alongY);
     this.heightBar(middleX, middleY, side, z);
     pen.fillStyle = "#14171c";
     pen.font = `bold ${Math.max(8 * this.ratio, 1.3 * side)}px system-ui, sans-serif`;
@@ -592,7 +599,8 @@ class Drawing {
   // A bar at the player's right: how high its feet are, of the arena's height.
   heightBar(middleX, middleY, side, z) {
     const { pen } = this, [, , z0, , , z1] = match.map.arena;
-    const part = Math.max(0, Math.min(1, (z + PLAYER_BODY[2] - z0) / (z1 - z0))), width = Math.max(3 * this.ratio, 0.35 * side);
+    const part = Math.max(0, Math.min(1, (z + PLAYER_BODY[2] - z0) / (z1 - z0)));
+    const width = Math.max(3 * this.ratio, 0.35 * side);
     const left = middleX + side + 2 * this.ratio, tall = 2 * side;
     pen.fillStyle = "#59636f";
     pen.fillRect(left, middleY - side, width, tall);
