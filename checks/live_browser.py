@@ -14,36 +14,79 @@ from selenium.webdriver.common.by import By
 from selenium.webdriver.common.keys import Keys
 
 import arena
-from common import run
+from common import EXAMPLES, run
 
 PREDICTED_MOVES = 600
+# Two players on a line, with ammunition between them.
+RANGE = """arena -65536 -65536 0 65536 65536 49152
+shots
+spawn -20000 0 6144
+spawn 20000 0 6144
+item -12000 -4096 0 ammo 60000
+"""
 
 
 def try_browser(words):
     from live import MAP, Front, want
 
-    with tempfile.TemporaryDirectory(prefix="live-") as top, Front(MAP, "--bots", "6", "--save", os.path.join(top, "m")) as front:
-        url = f"http://127.0.0.1:{front.http}/"
-        with opened(url) as page, opened(url) as other:
-            wait_until(lambda: text_of(page, "state") == "watching" and text_of(page, "slot").startswith("watching"), "the page watches")
-            join(page)
-            slot = int(text_of(page, "slot"))
-            walk(page, want)
-            wait_until(lambda: f"player {slot}" in text_of(other, "players"), "another page lists the player")
-            watched_place_is_seen(page, other, slot, want)
-            join(other)
-            want(text_of(other, "slot") != text_of(page, "slot"), "two pages have one slot")
-            predicts(page, want)
-            page.find_element(By.ID, "join").click()
-            wait_until(lambda: text_of(page, "state") == "watching", "the page watches after it left")
-            if words.screenshot:
-                page.save_screenshot(words.screenshot)
-            for one in (page, other):
-                said = [entry for entry in one.get_log("browser")]
-                want(not said, f"the console has {said}")
-        print(text := front.end()[0], end="")
-        want("live: right:" in text, "the match isn't right")
-    print("browser: the page joins, walks, jumps and leaves as it is told, and another sees it; the console is empty")
+    with tempfile.TemporaryDirectory(prefix="live-") as top:
+        with Front(MAP, "--bots", "6", "--save", os.path.join(top, "match")) as front:
+            url = f"http://127.0.0.1:{front.http}/"
+            with opened(url) as page, opened(url) as other:
+                plays(page, other, want)
+                if words.screenshot:
+                    page.save_screenshot(words.screenshot)
+            ends_right(front, want)
+        with open(os.path.join(top, "range.map"), "w", encoding="ascii") as file:
+            file.write(RANGE)
+        with Front(file.name, "--save", os.path.join(top, "range")) as front:
+            url = f"http://127.0.0.1:{front.http}/"
+            with opened(url) as page, opened(url) as other:
+                shoots(page, other, want)
+            ends_right(front, want)
+    print("browser: the page joins, walks, jumps, shoots and leaves as it is told; no console has a line")
+
+
+def ends_right(front, want):
+    text, status = front.end()
+    print(text, end="")
+    want(status == 0, f"the front's status is {status}")
+
+
+def plays(page, other, want):
+    wait_until(lambda: text_of(page, "slot").startswith("watching"), "the page watches")
+    join(page)
+    slot = int(text_of(page, "slot"))
+    walk(page, want)
+    wait_until(lambda: f"player {slot}" in text_of(other, "players"), "another page lists the player")
+    watched_place_is_seen(page, other, slot, want)
+    join(other)
+    want(text_of(other, "slot") != text_of(page, "slot"), "two pages have one slot")
+    predicts(page, want)
+    page.find_element(By.ID, "join").click()
+    wait_until(lambda: text_of(page, "state") == "watching", "the page watches after it left")
+    are_silent((page, other), want)
+
+
+def are_silent(pages, want):
+    for page in pages:
+        said = page.get_log("browser")
+        want(not said, f"the console has {said}")
+
+
+def shoots(page, other, want):
+    """A player takes ammunition and shoots another until it falls."""
+    join(page)
+    join(other)
+    held(page, "d", 0.6)
+    wait_until(lambda: text_of(page, "ammo") == "20", "ammunition is taken")
+    for _ in range(12):
+        held(page, "f", 0.1)
+    wait_until(lambda: "player 1 fell, hit by player 0" in text_of(other, "events"), "the other falls")
+    ammo, score = int(text_of(page, "ammo")), int(text_of(page, "score"))
+    want(ammo <= 16 and score >= 1, f"after four hits the ammunition is {ammo} and the score {score}")
+    print(f"browser: {20 - ammo} shots, score {score}")
+    are_silent((page, other), want)
 
 
 @contextlib.contextmanager
@@ -51,8 +94,8 @@ def opened(url):
     """A page in a browser of its own."""
     options = webdriver.ChromeOptions()
     options.binary_location = "/usr/bin/chromium"
-    for word in ("--headless=new", "--no-sandbox", "--disable-gpu", "--disable-dev-shm-usage", "--window-size=1400,900"):
-        options.add_argument(word)
+    for word in ("headless=new", "no-sandbox", "disable-gpu", "disable-dev-shm-usage", "window-size=1400,900"):
+        options.add_argument(f"--{word}")
     options.set_capability("goog:loggingPrefs", {"browser": "ALL"})
     page = webdriver.Chrome(options=options, service=Service("/usr/bin/chromedriver"))
     try:
@@ -126,8 +169,8 @@ def watched_place_is_seen(page, other, slot, want):
 def predicts(page, want):
     """What the page predicts of random moves is, to the sub-unit, what the program does."""
     rng = random.Random(5)
-    with open(os.path.join(os.path.dirname(os.path.dirname(os.path.abspath(__file__))), "examples", "arena.map"), "rb") as file:
-        lines = [line for line in file.read().split(b"\n") if not line.startswith((b"lift", b"teleport", b"shots")) and line]
+    with open(os.path.join(EXAMPLES, "arena.map"), "rb") as file:
+        lines = [line for line in file.read().splitlines() if not line.startswith((b"lift", b"teleport", b"shots"))]
     angle, commands = 0.0, []
     for number in range(1, PREDICTED_MOVES + 1):
         angle = rng.uniform(-math.pi, math.pi) if rng.random() < 0.06 else angle
@@ -139,7 +182,8 @@ def predicts(page, want):
         recording += b"frame\n" + arena.packet_line(1, arena.moves([command])).encode() + b"\n"
     output, _, status = run(["play", "1"], recording + b"end\n")
     want(status == 0, f"the program's status is {status}")
-    want_origins = [[int(part) for part in line.split()[3:6]] for line in output.splitlines() if line.startswith(b"did ")]
+    moved = [line.split()[3:6] for line in output.splitlines() if line.startswith(b"did ")]
+    wanted = [[int(part) for part in place] for place in moved]
     first = next(line for line in output.splitlines() if line.startswith(b"to "))
     origin = list(struct.unpack_from("<3i", bytes.fromhex(first.split()[2].decode()), 6))
     got = page.execute_async_script(
@@ -153,7 +197,8 @@ def predicts(page, want):
         origin,
         [{"ms": one.ms, "x": one.wish_x, "y": one.wish_y, "buttons": one.buttons} for one in commands],
     )
-    wrong = [number for number, (one, other) in enumerate(zip(got, want_origins), 1) if one != other]
-    want(len(got) == len(want_origins) and not wrong, f"{len(wrong)} of {len(got)} predicted places differ, the first is {wrong[:1]}")
-    highest = max(place[2] for place in want_origins)
+    wrong = [number for number, (one, other) in enumerate(zip(got, wanted), 1) if one != other]
+    want(len(got) == len(wanted), f"{len(got)} places are predicted of {len(wanted)}")
+    want(not wrong, f"{len(wrong)} of {len(got)} predicted places differ, the first is {wrong[:1]}")
+    highest = max(place[2] for place in wanted)
     print(f"browser: {len(got)} moves are predicted to the sub-unit, up to a height of {highest / 256:.0f} units")

@@ -1,7 +1,8 @@
 // The page of the live front: it shows the arena, sends what is pressed, and shows its own player's motion at once.
 //
-// In this order: what comes as bytes, the rules of a move (for the own player alone), the match, the socket, the keys, the
-// drawing and the panel. docs/FORMATS.md has the bytes and the rules, docs/LIVE.md the messages. Lengths are in sub-units.
+// In this order: what comes as bytes, the rules of a move (for the own player alone), the match, the socket, the keys,
+// the drawing and the panel. docs/FORMATS.md has the bytes and rules, docs/LIVE.md the messages. Lengths are in
+// sub-units.
 
 // ---- What comes as bytes.
 
@@ -21,8 +22,9 @@ export function readMap(text) {
     else if (word === "block") map.blocks.push(numbers);
     else if (word === "spawn") map.spawns.push(numbers);
     else if (word === "item") map.things.push({ kind: fields[3], origin: numbers.slice(0, 3) });
-    else if (word === "teleport") map.things.push({ kind: "teleporter", box: numbers.slice(0, 6), to: numbers.slice(6, 9) });
-    else if (word === "goal") map.things.push({ kind: "goal", box: numbers });
+    else if (word === "teleport") {
+      map.things.push({ kind: "teleporter", box: numbers.slice(0, 6), to: numbers.slice(6) });
+    } else if (word === "goal") map.things.push({ kind: "goal", box: numbers });
     else if (word === "lift") map.things.push({ kind: "lift", box: numbers.slice(0, 6), rise: numbers[6] });
   }
   return map;
