@@ -182,7 +182,7 @@ export function fixedSolids(map) {
 
 // ---- The match as this page knows it.
 
-const FALL_FRAMES = 40;
+const FALL_FRAMES = 40, SHOT_SHOWN = 600;
 const match = {
   map: null, solids: [], period: 50, slot: null, seen: null, before: null, seenAt: 0,
   scores: new Map(), downUntil: new Map(), shots: [], headings: new Map(), refusals: 0, delay: null,
@@ -314,7 +314,7 @@ function takeEvent([name, slot, other], frame) {
   if (name === "took") addLine(`player ${slot} took ${other === "ammo" ? "ammunition" : "a gem"}`);
   if (name === "hit" || name === "down") {
     addLine(name === "hit" ? `player ${other} hit player ${slot}` : `player ${slot} fell, hit by player ${other}`);
-    match.shots.push({ from: placeOf(other), to: placeOf(slot), until: performance.now() + 300 });
+    match.shots.push({ from: placeOf(other), to: placeOf(slot), until: performance.now() + SHOT_SHOWN });
     if (name === "down") match.downUntil.set(slot, frame + FALL_FRAMES);
   }
   if (name === "score") match.scores.set(slot, other);
@@ -556,12 +556,14 @@ class Drawing {
 
   shots(now) {
     match.shots = match.shots.filter((shot) => shot.until > now);
-    for (const { from, to, isOwn } of match.shots) {
+    for (const { from, to, until, isOwn } of match.shots) {
       if (from === null || to === null) continue;
       this.pen.strokeStyle = isOwn ? "#ffd76a" : "#ff5a4d";
-      this.pen.lineWidth = 2 * this.ratio;
+      this.pen.lineWidth = 2.5 * this.ratio;
+      this.pen.globalAlpha = Math.min(1, (until - now) / SHOT_SHOWN + 0.2);
       this.line(from[0], from[1], to[0], to[1]);
     }
+    this.pen.globalAlpha = 1;
   }
 
   players(now) {
