@@ -1,6 +1,5 @@
 """A match: its frames by the clock, and what the clients get of each."""
 import asyncio
-import struct
 from dataclasses import dataclass
 from time import monotonic
 from typing import Dict, List, Optional, Sequence
@@ -9,7 +8,7 @@ import arena
 from arena_live.events import Events
 from arena_live.metrics import Metrics
 from arena_live.pipe import Pipe
-from arena_live.resume import Resumed
+from arena_live.resume import Start
 from arena_live.roll import Roll, leaves_of
 from arena_live.saved import Saved, frame_text
 from arena_live.sessions import SNAPSHOT, Sessions
@@ -27,7 +26,7 @@ class Arena:
 class Match:
     """One run of the program, from the first frame to the line `end`."""
 
-    def __init__(self, ground: Arena, sessions: Sessions, metrics: Metrics, start: Resumed):
+    def __init__(self, ground: Arena, sessions: Sessions, metrics: Metrics, start: Start):
         self._sessions, self._metrics = sessions, metrics
         self.saved, self.pipe, self._roll = start.saved, start.pipe, start.roll
         self._events = Events(ground.map)
@@ -40,7 +39,7 @@ class Match:
         """A new match, whose folder has the map alone."""
         pipe = await Pipe.start(ground.program, saved.settings.workers)
         await pipe.send(saved.opening(ground.lines))
-        return Match(ground, sessions, metrics, Resumed(saved, pipe, Roll(), 0))
+        return Match(ground, sessions, metrics, Start(saved, pipe, Roll(), 0))
 
     async def run(self, stop: asyncio.Event, most: int) -> None:
         """Plays frames by the clock until `stop` is set or so many frames were played, and then the last."""

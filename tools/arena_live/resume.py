@@ -21,8 +21,8 @@ Commands = Dict[Tuple[int, int], arena.Command]  # by port and number
 
 
 @dataclass
-class Resumed:
-    """A match that goes on: the program, who has joined in it, and the number of the frame that is open."""
+class Start:
+    """Where a match begins or goes on: its folder, the program, who has joined, and the number of the open frame."""
 
     saved: Saved
     pipe: Pipe
@@ -30,7 +30,7 @@ class Resumed:
     frame: int
 
 
-async def resume(folder: str, program: str) -> Resumed:
+async def resume(folder: str, program: str) -> Start:
     saved = Saved.reopen(folder)
     try:
         _cut_open_frame(saved.recording_path)
@@ -46,7 +46,7 @@ async def resume(folder: str, program: str) -> Resumed:
         await pipe.kill()
         saved.close()
         raise
-    return Resumed(saved, pipe, roll, frame)
+    return Start(saved, pipe, roll, frame)
 
 
 def _cut_open_frame(path: str) -> None:
