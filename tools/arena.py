@@ -96,7 +96,10 @@ def why_not_ascii(front: bytes) -> Optional[str]:
 
 def printable(data: bytes) -> str:
     """Bytes as text of printable ASCII alone, so that none of them reaches a terminal as a control byte."""
-    return "".join(chr(b) if 32 <= b <= 126 and b != 92 else "\\\\" if b == 92 else f"\\x{b:02x}" for b in data)
+    text = data.decode("latin-1")
+    if text.isascii() and text.isprintable() and "\\" not in text:
+        return text
+    return "".join("\\\\" if c == "\\" else c if " " <= c <= "~" else f"\\x{ord(c):02x}" for c in text)
 
 
 # What reading a file, or unpacking it, may raise.
@@ -121,6 +124,8 @@ def opened(path: str, any_encoding: bool = False) -> Iterator[BinaryIO]:
     name = "standard input" if path == "-" else path
     with contextlib.ExitStack() as stack:
         try:
+            if path == "-" and sys.stdin is None:
+                raise FormatError("standard input is closed")
             file = sys.stdin.buffer if path == "-" else stack.enter_context(open(path, "rb"))
             if file.peek(2)[:2] == GZIP:
                 file = stack.enter_context(gzip.open(file, "rb"))
@@ -139,6 +144,18 @@ def read_bytes(path: str, any_encoding: bool = False) -> bytes:
             return file.read()
         except _READING as error:
             raise FormatError(f"{path} {_cause(error)}") from None
+
+
+def parts(file: BinaryIO, most: int) -> Iterator[bytes]:
+    """The lines of a file with their line feeds, where one of more bytes comes in parts."""
+    while True:
+        try:
+            part = file.readline(most)
+        except _READING as error:
+            raise FormatError(f"the file {_cause(error)}") from None
+        if not part:
+            return
+        yield part
 
 
 class _Lines:
@@ -418,6 +435,11 @@ def read_head(data: bytes) -> Snapshot:
     return Snapshot(frame, slot, (x, y, z), (vx, vy, vz), flags, ammo, carry, score, number, count)
 
 
+def has_limits(head: Snapshot) -> bool:
+    """Whether what a snapshot says of its own player is within the limits."""
+    return head.slot < PLAYERS and head.flags <= 3 and head.ammo <= 100 and head.carry <= 8
+
+
 def read_snapshot(data: bytes) -> Snapshot:
     """What a snapshot's bytes say. Bytes that are none raise `SnapshotFault`, for the first fault that holds."""
     if len(data) < HEAD_BYTES or len(data) < HEAD_BYTES + ENTITY_BYTES * _HEAD.unpack_from(data)[-1]:
@@ -427,8 +449,7 @@ def read_snapshot(data: bytes) -> Snapshot:
     ids = [row[0] for row in rows]
     if any(one >= other for one, other in zip(ids, ids[1:])) or head.slot in ids:
         raise SnapshotFault("Order")
-    is_in_limits = head.count <= MOST_ENTITIES and head.slot < PLAYERS and head.flags <= 3
-    is_in_limits = is_in_limits and head.ammo <= 100 and head.carry <= 8
+    is_in_limits = head.count <= MOST_ENTITIES and has_limits(head)
     for number, kind, status, *_ in rows:
         is_in_limits = is_in_limits and number <= 511 and kind < len(KINDS) and (status == 1 or status == 0 and kind in (1, 2))
     if not is_in_limits:

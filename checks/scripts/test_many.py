@@ -1,0 +1,239 @@
+"""`many`: right, refused and wrong recordings, odd names, stored outputs, signals, full disks and other machines."""
+import gzip
+import json
+import os
+import shutil
+import signal
+import subprocess
+import sys
+import time
+import unittest
+
+from calls import Calls, content, run
+from common import PROGRAM, TOOLS
+
+ODD = ["a\tb\nc.demo", "\udcff '\"{}$(x).demo", "-n.demo", "\x1b[31mred.demo"]
+# What stands in for `ssh`: it runs the command on this machine, in a folder of its own.
+SSH = """#!/bin/sh
+while [ "${1#-}" != "$1" ]; do case "$1" in -l|-o|-p) shift;; esac; shift; done
+shift; [ "$1" = -- ] && shift
+cd "$FAR_HOME" && HOME=$FAR_HOME exec sh -c "$*"
+"""
+# A program with a command `audit`, which calls each log right that has the word `end 2`.
+AUDIT = """#!{python}
+import os, sys
+if sys.argv[1:] != ["audit"]:
+    os.execv({program!r}, sys.argv)
+text = sys.stdin.read()
+if text.startswith("arena ") and "\\nend\\nframe 0\\n" in text and text.endswith("\\nend 2\\n"):
+    print("right frames 2 moves 0")
+elif text:
+    sys.stderr.write("transcript refused: line 3\\n")
+    sys.exit(6)
+"""
+
+
+@unittest.skipUnless(shutil.which("parallel"), "GNU parallel isn't here")
+class Many(Calls):
+    def setUp(self):
+        super().setUp()
+        self.recordings = self.path("recordings")
+        os.mkdir(self.recordings)
+
+    def put(self, name, data):
+        with open(os.path.join(self.recordings, name), "wb") as file:
+            file.write(data)
+
+    def many(self, *words, status, **more):
+        """The table, and the results by name."""
+        results = self.path("results")
+        out, error, _ = self.call("many", self.recordings, "--jsonl", results, *words, status=status, **more)
+        with open(results, encoding="utf-8") as file:
+            found = {result["name"]: result for result in map(json.loads, file)}
+        return out.decode(), found, error
+
+    def ends(self, found):
+        return {name: result["end"] for name, result in found.items()}
+
+    def test_right_refused_and_packed(self):
+        self.put("a.demo", content("duel.demo"))
+        self.put("b.demo.gz", gzip.compress(content("packet-faults.demo")))
+        out, found, _ = self.many(status=0)
+        self.assertEqual(self.ends(found), {"a.demo": "right", "b.demo.gz": "right"})
+        refusals = content("packet-faults.out").count(b"\nno ")
+        self.assertIn(f"{refusals}  refused packets, in 1 of them", out)
+        self.put("c.demo", content("refused.demo"))
+        self.put("long.demo", run(["make", "1", "1", "2001"])[0])
+        out, found, _ = self.many(status=1)
+        self.assertIn("refused: c.demo: line 5, fault 3: the line begins with no known word", out)
+        self.assertIn("long: long.demo: its frame of line 4103 is one more than `check` takes", out)
+
+    def test_odd_names(self):
+        for name in ODD:
+            self.put(name, content("one-join.demo"))
+        out, found, _ = self.many("-j", "2", status=0)
+        self.assertEqual(self.ends(found), {name: "right" for name in ODD})
+        self.put("\x1b]0;evil\x07.demo", content("refused.demo"))
+        self.assertNotIn("\x1b", self.many(status=1)[0])
+
+    def test_what_is_no_recording(self):
+        os.symlink("/none", os.path.join(self.recordings, "dangling.demo"))
+        os.mkdir(os.path.join(self.recordings, "folder.demo"))
+        self.put("cut.demo.gz", gzip.compress(content("duel.demo"))[:-9])
+        self.put("wide.demo", content("one-join.demo").decode().encode("utf-16"))
+        _, found, _ = self.many(status=1)
+        wanted = {"dangling.demo": "failed", "folder.demo": "failed", "cut.demo.gz": "failed", "wide.demo": "refused"}
+        self.assertEqual(self.ends(found), wanted)
+
+    def test_wrong_words(self):
+        empty = self.path("empty")
+        os.mkdir(empty)
+        lists = [[], [empty], [self.path("none")], [self.recordings, "--workers", "17"], [self.recordings, "-j", "0"]]
+        lists += [[self.recordings, "--resume"], [self.recordings, "--pairs", "--logs"], [self.recordings, "--sing"]]
+        lists += [[self.recordings, "--pairs", "--sshlogin", "far"]]
+        for words in lists:
+            _, error, _ = self.call("many", *words, status=2)
+            self.assertTrue(error.startswith(b"many: "))
+
+    def test_a_program_by_a_relative_path(self):
+        self.put("a.demo", content("one-join.demo"))
+        place = os.path.relpath(PROGRAM, self.folder)
+        _, found, _ = self.many(status=0, env={"ARENA_CLI": place}, cwd=self.folder)
+        self.assertEqual(self.ends(found), {"a.demo": "right"})
+        self.call("many", self.recordings, status=2, env={"ARENA_CLI": "./none"}, cwd=self.folder)
+
+    def test_stored_outputs(self):
+        for name in ("duel", "tour", "packet-faults"):
+            self.put(name + ".demo", content(name + ".demo"))
+            self.put(name + ".out", content(name + ".out"))
+        self.put("packed.demo.gz", gzip.compress(content("lift.demo")))
+        self.put("packed.out.gz", gzip.compress(content("lift.out")))
+        out, found, _ = self.many("--pairs", status=0)
+        self.assertEqual(set(self.ends(found).values()), {"right"})
+        self.put("tour.out", content("tour.out").replace(b"did 0", b"did 1", 1))
+        self.put("alone.demo", content("duel.demo"))
+        self.put("refused.demo", content("refused.demo"))
+        self.put("refused.out", content("refused.out"))
+        out, found, _ = self.many("--pairs", status=1)
+        ends = self.ends(found)
+        self.assertEqual((ends["tour.demo"], ends["alone.demo"], ends["refused.demo"]), ("wrong", "failed", "refused"))
+        self.assertIn("failed: alone.demo: there is no output beside it", out)
+
+    def test_logs(self):
+        if run(["audit"])[2] == 2:
+            _, error, _ = self.call("many", self.recordings, "--logs", status=2)
+            self.assertIn(b"has no command `audit`", error)
+        audit = self.path("audit", AUDIT.format(python=sys.executable, program=PROGRAM).encode())
+        os.chmod(audit, 0o755)
+        recording = content("two-frames.demo")
+        fed = run(["feed", "1"], recording)[0]
+        head = recording.split(b"\nframe")[0] + b"\nend\n"
+        self.put("whole.log", head + fed)
+        self.put("parted.log", fed)
+        self.put("parted.demo", recording)
+        self.put("wrong.log.gz", gzip.compress(head + fed[:-2]))
+        self.put("alone.log", fed)
+        _, found, _ = self.many("--logs", status=1, env={"ARENA_CLI": audit})
+        wanted = {"whole.log": "right", "parted.log": "right", "wrong.log.gz": "wrong", "alone.log": "failed"}
+        self.assertEqual(self.ends(found), wanted)
+
+    def test_results_go_on(self):
+        for number in range(4):
+            self.put(f"{number}.demo", content("one-join.demo"))
+        log = self.path("jobs")
+        self.many("--joblog", log, "-j", "1", status=0)
+        with open(log) as file:
+            lines = file.readlines()
+        with open(log, "w") as file:
+            file.writelines(lines[:3])
+        out, found, _ = self.many("--joblog", log, "--resume", status=0)
+        self.assertEqual(len(found), 4)
+        with open(self.path("results")) as file:
+            self.assertEqual(len(file.readlines()), 6)
+        os.remove(self.path("results"))
+        out, found, _ = self.many("--joblog", log, "--resume", status=1)
+        self.assertIn("4  before", out)
+
+    def test_a_signal_ends_all(self):
+        """No program and no file is left by a signal, whichever it is."""
+        marked = self.path("marked_program")
+        shutil.copy(PROGRAM, marked)
+        for number in range(4):
+            self.put(f"{number}.demo", run(["make", str(number), "64", "1900"])[0])
+        room = self.path("room")
+        os.mkdir(room)
+        for sent in (signal.SIGTERM, signal.SIGINT, signal.SIGHUP, signal.SIGKILL):
+            environment = {**os.environ, "ARENA_CLI": marked, "TMPDIR": room}
+            script = subprocess.Popen(
+                [os.path.join(TOOLS, "many"), self.recordings, "-j", "2"], env=environment, stdout=subprocess.PIPE, stderr=subprocess.PIPE
+            )
+            self.wait_for(lambda: self.running(marked) >= 2, "a program runs")
+            script.send_signal(sent)
+            out, error = script.communicate(timeout=60)
+            self.assertEqual(script.returncode, -sent if sent == signal.SIGKILL else 128 + sent, error)
+            self.wait_for(lambda: self.running(marked) == 0, f"no program is left after {sent!r}")
+            self.assertEqual(os.listdir(room), [])
+            if sent != signal.SIGKILL:
+                self.assertIn(b"many: stopped after 0 of 4", error)
+
+    @staticmethod
+    def running(path):
+        count = 0
+        for name in os.listdir("/proc"):
+            if name.isdecimal():
+                try:
+                    with open(f"/proc/{name}/cmdline", "rb") as file:
+                        words = file.read().split(b"\0")
+                except OSError:
+                    continue
+                count += words[0] == os.fsencode(path)
+        return count
+
+    def wait_for(self, holds, what):
+        until = time.monotonic() + 60
+        while not holds():
+            self.assertLess(time.monotonic(), until, what)
+            time.sleep(0.05)
+
+    def test_a_full_disk(self):
+        """With no room for a temporary file anywhere a right output is called right."""
+        room = self.path("full")
+        os.mkdir(room)
+        mounted = subprocess.run(["mount", "-t", "tmpfs", "-o", "size=64k", "tmpfs", room], capture_output=True)
+        if mounted.returncode != 0:
+            self.skipTest("a small tmpfs can't be mounted here; that takes root")
+        self.addCleanup(subprocess.run, ["umount", room])
+        with open(os.path.join(room, "all"), "wb", buffering=0) as file:
+            try:
+                while True:
+                    file.write(b"x" * 4096)
+            except OSError:
+                pass
+        for number in range(3):
+            self.put(f"{number}.demo", run(["make", str(number), "8", "100"])[0])
+        _, found, _ = self.many(status=0, env={"TMPDIR": room})
+        self.assertEqual(set(self.ends(found).values()), {"right"})
+        _, error, _ = self.call("many", self.recordings, "--jsonl", os.path.join(room, "results"), status=1)
+        self.assertIn(b"No space left on device", error)
+
+    @unittest.skipUnless(shutil.which("rsync"), "rsync isn't here, by which parallel copies files")
+    def test_another_machine(self):
+        """The program, the script and the recordings are copied, and nothing stays."""
+        home, bins = self.path("home"), self.path("bins")
+        os.mkdir(home)
+        os.mkdir(bins)
+        with open(os.path.join(bins, "ssh"), "w") as file:
+            file.write(SSH)
+        os.chmod(os.path.join(bins, "ssh"), 0o755)
+        for name in ODD[:2] + ["plain.demo"]:
+            self.put(name, content("duel.demo"))
+        self.put("packed.demo.gz", gzip.compress(content("lift.demo")))
+        environment = {"PATH": f"{bins}:{os.environ['PATH']}", "FAR_HOME": home}
+        _, found, _ = self.many("--sshlogin", "far", "-j", "2", status=0, env=environment)
+        self.assertEqual((len(found), set(self.ends(found).values())), (4, {"right"}))
+        left = [name for _, _, files in os.walk(home) for name in files if "demo" in name or name == "many_job.py"]
+        self.assertEqual(left, [])
+
+
+if __name__ == "__main__":
+    unittest.main()

@@ -1,0 +1,71 @@
+"""`stats`: counts against the lines of outputs, and against `match`."""
+import csv
+import gzip
+import io
+import json
+import unittest
+
+from calls import Calls, content, example, run
+
+
+class Stats(Calls):
+    def counted(self, *words, status=0, given=b""):
+        return json.loads(self.call("stats", *words, status=status, given=given)[0])
+
+    def test_the_totals_are_those_of_match(self):
+        recording = self.path("m.demo", run(["make", "7", "32", "60"])[0])
+        said = run(["match", "7", "32", "60", "1"])[0].split()
+        wanted = dict(zip(said[::2], map(int, said[1::2])))
+        found = self.counted(recording)
+        players = found["players"]
+        self.assertEqual(len(found["frames"]), wanted[b"frames"])
+        self.assertEqual(sum(player["moves"] for player in players), wanted[b"moves"])
+        self.assertEqual(len(players), wanted[b"joins"])
+        self.assertEqual(sum(player["ammo_taken"] + player["gems_taken"] for player in players), wanted[b"items"])
+        self.assertEqual(sum(player["score"] for player in players), wanted[b"scores"])
+        self.assertEqual(sum(frame["moves"] for frame in found["frames"]), wanted[b"moves"])
+
+    def test_hits_and_falls(self):
+        players = self.counted(example("duel.demo"), example("duel.out"))["players"]
+        rows = [[player[name] for name in ("slot", "hits", "hits_got", "falls", "falls_made", "score")] for player in players]
+        self.assertEqual(rows, [[0, 4, 2, 0, 1, 1], [1, 2, 4, 1, 0, 0], [2, 0, 0, 0, 0, 0]])
+
+    def test_refusals_by_name(self):
+        found = self.counted(example("packet-faults.demo"), example("packet-faults.out"))
+        names = [line.split()[2].decode() for line in content("packet-faults.out").split(b"\n") if line.startswith(b"no ")]
+        self.assertEqual(found["refused"], {name: names.count(name) for name in names})
+        players = self.counted(example("ninth-move.demo"), example("ninth-move.out"))["players"]
+        self.assertEqual(players[0]["refused"], {"Many": 1})
+
+    def test_leaves(self):
+        players = self.counted(example("leaving.demo"), example("leaving.out"))["players"]
+        self.assertEqual([(player["slot"], player["left"] is None) for player in players], [(0, False), (0, True)])
+
+    def test_tables_and_metrics(self):
+        out, _, _ = self.call("stats", example("duel.demo"), example("duel.out"), "--csv", status=0)
+        self.assertEqual([row["score"] for row in csv.DictReader(io.StringIO(out.decode()))], ["1", "0", "0"])
+        out, _, _ = self.call("stats", example("duel.demo"), example("duel.out"), "--csv-frames", status=0)
+        self.assertEqual(len(list(csv.DictReader(io.StringIO(out.decode())))), 48)
+        out, _, _ = self.call("stats", example("packet-faults.demo"), example("packet-faults.out"), "--prometheus", status=0)
+        self.assertIn(b'\nmustardawl_refusals_total{name="Empty"} 1\n', out)
+        for line in out.decode().splitlines():
+            self.assertRegex(line, r"^(# (HELP|TYPE) mustardawl_\w+ .+|mustardawl_\w+(\{\w+=\"\w+\"(,\w+=\"\w+\")*\})? [0-9]+)$")
+
+    def test_files(self):
+        packed = self.path("duel.out.gz", gzip.compress(content("duel.out")))
+        plain = self.counted(example("duel.demo"), example("duel.out"))
+        self.assertEqual(self.counted(example("duel.demo"), packed), plain)
+        self.assertEqual(self.counted(example("duel.demo"), "-", given=content("duel.out")), plain)
+        fed = self.path("fed", run(["feed", "1"], content("duel.demo"))[0])
+        self.assertEqual(self.counted(example("duel.demo"), fed)["frames"], plain["frames"])
+        cut = self.counted(example("duel.demo"), self.path("cut", content("duel.out")[:9000]), status=1)
+        self.assertFalse(cut["whole"])
+        for words in ([], ["-"], ["-", "-"], [self.path("none")], [self.folder], [example("duel.demo"), "--sing"]):
+            self.call("stats", *words, status=2)
+        self.call("stats", example("duel.out"), status=1)
+        error, status = self.into_closed_pipe("stats", example("duel.demo"), example("duel.out"))
+        self.assertEqual((error, status), (b"stats: the output was closed before all of it was written\n", 1))
+
+
+if __name__ == "__main__":
+    unittest.main()

@@ -1,0 +1,166 @@
+"""`why`: faults, rules of the map, encodings, and what a wrong output should have been."""
+import gzip
+import os
+import random
+import sys
+import unittest
+
+from calls import Calls, content, example, run
+from common import PROGRAM
+
+MAP = "arena -65536 -65536 0 65536 65536 65536\nspawn 0 0 6144\n"
+LIFT = "lift 20000 20000 0 30000 30000 2000 9000 100\n"
+# A last line of a map, and the rule that it breaks.
+BROKEN = [
+    ("arena 0 0 0 32767 40000 40000\n", 1),
+    (MAP + "block 5 0 0 5 10 10\n", 2),
+    (MAP + "goal 0 0 0 10 10 65537\n", 2),
+    (MAP + "block 0 0 0 9 9 9\n" * 1025, 3),
+    (MAP + "spawn 0 0 6144\n" * 64, 3),
+    (MAP + "item 0 0 0 gem 5\n" * 401, 3),
+    (MAP + "spawn 61441 0 6144\n", 4),
+    (MAP + "teleport 0 0 0 9 9 9 0 0 0\n", 4),
+    (MAP + "item 57345 0 0 gem 5\n", 5),
+    (MAP + "lift 0 0 0 9 9 9 1048576 1\n", 6),
+    (MAP.split("spawn")[0] + "frame\n", 7),
+    (MAP + LIFT + LIFT, 8),
+    (MAP + LIFT + "block 25000 25000 10999 26000 26000 12000\n", 8),
+    (MAP + "block 25000 25000 10999 26000 26000 12000\n" + LIFT, 8),
+]
+
+
+class Recordings(Calls):
+    def test_each_rule_is_named(self):
+        for text, rule in BROKEN:
+            path = self.path("broken.demo", (text + "end\n").encode())
+            out, _, _ = self.call("why", path, status=1)
+            self.assertIn(b"line %d is refused" % text.count("\n"), out, text[-80:])
+            self.assertIn(b"\nrule %d is broken: " % rule, out, text[-80:])
+            self.assertIn(b"\nhere ", out)
+
+    def test_a_cut_file(self):
+        for data in (content("duel.demo")[:300], content("duel.demo")[:-4], b""):
+            out, _, _ = self.call("why", self.path("cut.demo", data), status=1)
+            self.assertIn(b"it was cut, or is still being written", out)
+
+    def test_encodings_are_named(self):
+        text = content("duel.demo").decode()
+        for encoding, said in (("utf-16", b"UTF-16"), ("utf-16-be", b"UTF-16"), ("utf-8-sig", b"byte order mark")):
+            out, _, _ = self.call("why", self.path("other.demo", text.encode(encoding)), status=1)
+            self.assertIn(said, out)
+
+    def test_packed_files(self):
+        out, _, _ = self.call("why", self.path("one.demo.gz", gzip.compress(content("one-join.demo"))), status=0)
+        self.assertEqual(out, b"the recording is not refused\n")
+        self.call("why", self.path("two.demo.gz", gzip.compress(content("one-join.demo"))[:-9]), status=1)
+
+    def test_no_control_byte_is_written(self):
+        out, error, _ = self.call("why", self.path("evil.demo", b"arena \x1b]0;evil\x07\n\x9b31m\nend\n"), status=1)
+        self.assertTrue(all(32 <= b <= 126 or b == 10 for b in out + error), out)
+        self.assertIn(b"\\x1b]0;evil\\x07", out)
+
+    def test_words(self):
+        self.assertEqual(self.call("why", "--words", "play", "1", status=0)[0], b"the program takes these words\n")
+        self.assertIn(b"play N", self.call("why", "--words", "play", "17", status=1)[0])
+        for words in ([], ["--log"], ["--sing"], ["a", "b", "c"], [self.path("none")], [self.folder]):
+            self.call("why", *words, status=2)
+
+
+class Outputs(Calls):
+    def pair(self, words, workers):
+        recording = run(words)[0]
+        output = run(["play", workers], recording)[0]
+        return recording, output
+
+    def why(self, recording, output):
+        return self.call("why", self.path("r.demo", recording), self.path("r.out", output))
+
+    def test_right_outputs(self):
+        for name in ("duel", "lost-packets", "tour", "leaving", "full"):
+            out, _, _ = self.call("why", example(name + ".demo"), example(name + ".out"), status=0)
+            self.assertTrue(out.startswith(b"the output is right: right frames "))
+
+    def test_the_changed_line_is_named_with_what_it_should_be(self):
+        """A coordinate of a `did` line or a digit of a snapshot is changed: this line is named, and the one it was."""
+        rng = random.Random(76)
+        for words in (["make", "7", "16", "8"], ["resend", "5", "4", "9"]):
+            recording, output = self.pair(words, "4")
+            lines = output.split(b"\n")
+            for _ in range(5):
+                place = rng.choice([p for p, line in enumerate(lines) if line.startswith((b"did ", b"to "))])
+                fields = lines[place].split(b" ")
+                if fields[0] == b"did":
+                    fields[3] = b"%d" % (int(fields[3]) + 1)
+                else:
+                    at = rng.randrange(12, len(fields[2]))
+                    fields[2] = fields[2][:at] + (b"1" if fields[2][at : at + 1] == b"0" else b"0") + fields[2][at + 1 :]
+                changed = lines[:place] + [b" ".join(fields)] + lines[place + 1 :]
+                out, _, status = self.why(recording, b"\n".join(changed))
+                self.assertEqual(status, 1)
+                wanted = lines[place][:100] + (b".." if len(lines[place]) > 100 else b"")
+                self.assertIn(b"\nline %d should be %s\n" % (place + 1, wanted), out)
+
+    def test_other_changes_are_explained(self):
+        """Lines of an output are dropped, doubled, swapped and cut: each is explained."""
+        rng = random.Random(77)
+        recording, output = self.pair(["make", "9", "8", "6"], "4")
+        lines = output.split(b"\n")
+        for _ in range(16):
+            place = rng.randrange(len(lines) - 2)
+            way = rng.randrange(4)
+            if way == 0:
+                changed = lines[:place] + lines[place + 1 :]
+            elif way == 1:
+                changed = lines[: place + 1] + lines[place:]
+            elif way == 2:
+                changed = lines[:place] + [lines[place + 1], lines[place]] + lines[place + 2 :]
+            else:
+                changed = b"\n".join(lines)[: -rng.randrange(2, 9000)].split(b"\n")
+            out, error, status = self.why(recording, b"\n".join(changed))
+            if status == 0:
+                continue  # two moves that don't meet are right in both orders
+            self.assertEqual((status, error), (1, b""))
+            self.assertTrue(b"should be" in out, out)
+
+    def test_moves_of_a_player_out_of_order(self):
+        recording, output = content("three-moves.demo"), content("three-moves.out")
+        did = [line for line in output.split(b"\n") if line.startswith(b"did ")]
+        swapped = output.replace(did[0] + b"\n" + did[1], did[1] + b"\n" + did[0])
+        if swapped != output:
+            out, _, status = self.why(recording, swapped)
+            self.assertEqual(status, 1)
+            self.assertIn(b"should be", out)
+        extra = output.replace(did[0], did[0].replace(b"did 0 ", b"did 9 "))
+        self.assertIn(b"of slot 9 has a `did` line more than was sent", self.why(recording, extra)[0])
+
+    def test_outputs_of_feed_and_long_recordings(self):
+        recording = content("duel.demo")
+        self.assertIn(b"`feed` wrote it", self.why(recording, run(["feed", "1"], recording)[0])[0])
+        long = run(["make", "1", "1", "2001"])[0]
+        self.assertIn(b"takes no more", self.why(long, b"")[0])
+
+    def test_a_log_without_audit(self):
+        if run(["audit"])[2] != 2:
+            self.skipTest("the program has `audit`")
+        self.assertIn(b"has no command `audit`", self.call("why", "--log", example("duel.out"), status=1)[0])
+
+    def test_a_wrong_log(self):
+        """The program that is called says that the log is wrong at a line, as `audit` would."""
+        recording = run(["make", "5", "6", "4"])[0]
+        head = recording.split(b"\nframe")[0] + b"\nend\n"
+        fed = run(["feed", "2"], recording)[0].split(b"\n")
+        place = next(p for p, line in enumerate(fed) if p > 30 and line.startswith(b"did "))
+        piece = max(p for p in range(place) if fed[p].startswith(b"frame "))
+        fields = fed[place].split(b" ")
+        fields[4] = b"%d" % (int(fields[4]) + 1)
+        log = self.path("bad.log", head + b"\n".join(fed[:place] + [b" ".join(fields)] + fed[place + 1 :]))
+        said = f"transcript refused: line {head.count(10) + piece + 1}"
+        script = f"#!{sys.executable}\nimport os, sys\nif sys.argv[1:] != ['audit']:\n    os.execv({PROGRAM!r}, sys.argv)\n"
+        audit = self.path("program", (script + f"print({said!r}, file=sys.stderr)\nsys.exit(6)\n").encode())
+        os.chmod(audit, 0o755)
+        out, _, _ = self.call("why", "--log", log, status=1, env={"ARENA_CLI": audit})
+        self.assertIn(b"\nline %d should be %s\n" % (place + 1, fed[place]), out)
+
+
+if __name__ == "__main__":
+    unittest.main()

@@ -1,0 +1,196 @@
+"""A match as it ran, frame by frame: what `replay` and `stats` know of a recording and its output beyond their lines.
+
+`frames` goes through both at once. A player's damage and who is down follow from the journals (docs/FORMATS.md, "Shots"),
+and so does which items are away. A lift goes by itself where no player is near; where one is, its snapshot shows the lift.
+"""
+import struct
+from dataclasses import dataclass, field
+from typing import Dict, Iterator, List, Optional, Tuple
+
+import arena
+
+DAMAGE, FALL, DOWN_FRAMES = 25, 100, 40
+UP, DOWN = 1, -1
+
+
+@dataclass(frozen=True)
+class Shot:
+    """A shot that hit: where it went from and to, and whether who was hit fell."""
+
+    slot: int
+    hit: int
+    origin: arena.Point
+    end: arena.Point
+    is_fall: bool
+
+
+@dataclass(frozen=True)
+class Event:
+    """What a list of events tells. `kind` is one of the names below; `what` says more, or is None."""
+
+    frame: int
+    kind: str  # joined, left, item, hit, fell, scored, leapt
+    slot: int
+    what: Optional[int] = None  # the port, the thing's id, who was hit, by whom it fell, how much
+
+
+@dataclass
+class Player:
+    port: int
+    origin: arena.Point = (0, 0, 0)
+    state: int = 0  # the damage, or 100 and the frame from which it may move
+    score: int = 0
+    falls: int = 0  # that it made, each of which is one of its score
+
+
+@dataclass
+class Frame:
+    """One frame: its packets, its lines, the heads of its snapshots by slot, and what follows from them."""
+
+    number: int
+    arrivals: List[arena.Arrival]
+    played: arena.PlayedFrame
+    heads: Dict[int, arena.Snapshot]
+    ports: Dict[int, int]
+    down: List[int] = field(default_factory=list)
+    shots: List[Shot] = field(default_factory=list)
+    events: List[Event] = field(default_factory=list)
+    away: Dict[int, int] = field(default_factory=dict)  # items that are away, and the frame in which each returns
+    heights: Dict[int, int] = field(default_factory=dict)  # of the lifts, above their lowest place
+
+
+class Lift:
+    """A lift's height, as it goes by itself and as snapshots show it."""
+
+    def __init__(self, thing: arena.Thing):
+        self.thing, self.height, self.way = thing, 0, UP
+        self.mark = struct.pack("<HB", thing.id, arena.KINDS.index("lift"))
+
+    def step(self, snapshots) -> None:
+        if self.way == UP:
+            height = min(self.height + self.thing.speed, self.thing.rise)
+        else:
+            height = max(self.height - self.thing.speed, 0)
+        seen = self.seen(snapshots)
+        if seen is not None and seen != height:
+            self.height = seen  # it had no room for its step
+            return
+        self.height = height
+        if height in (0, self.thing.rise):
+            self.way = DOWN if height else UP
+
+    def seen(self, snapshots) -> Optional[int]:
+        for data in snapshots:
+            at = data.find(self.mark, arena.HEAD_BYTES)
+            while at >= 0 and (at - arena.HEAD_BYTES) % arena.ENTITY_BYTES:
+                at = data.find(self.mark, at + 1)
+            if at >= 0:
+                return struct.unpack_from("<i", data, at + 12)[0] - self.thing.box[2]
+        return None
+
+
+class Match:
+    """The map and the frames of a recording with its output."""
+
+    def __init__(self, recording: arena.Recording, output: arena.Output):
+        self.recording, self.output = recording, output
+        self.map = recording.map
+        self.players: Dict[int, Player] = {}
+        self.away: Dict[int, int] = {}
+        self.lifts = [Lift(thing) for thing in self.map.things if thing.kind == "lift"]
+
+    def frames(self) -> Iterator[Frame]:
+        """All frames that the output has; those of a log have their own packets."""
+        ports: Dict[int, int] = {}
+        recorded = iter(self.recording)
+        for played in self.output:
+            sent = next(recorded, None)
+            ports = arena.ports_by_slot(played, ports)
+            try:
+                heads = {slot: arena.read_head(data) for slot, data in played.snapshots.items()}
+            except arena.SnapshotFault as why:
+                raise arena.FormatError(f"frame {played.number}: bytes are no snapshot ({why.name})") from None
+            arrivals = played.arrivals or (sent.arrivals if sent else [])
+            frame = Frame(played.number, arrivals, played, heads, ports)
+            self.tick(frame)
+            self.join_and_leave(frame)
+            for move in played.moves:
+                self.run(frame, move)
+            self.close(frame)
+            yield frame
+
+    def tick(self, frame: Frame) -> None:
+        self.away = {thing: back for thing, back in self.away.items() if back > frame.number}
+        for lift in self.lifts:
+            lift.step(frame.played.snapshots.values())
+
+    def join_and_leave(self, frame: Frame) -> None:
+        joined = set(frame.played.joins.values())
+        for slot in [slot for slot in self.players if slot not in frame.heads or slot in joined]:
+            frame.events.append(Event(frame.number, "left", slot, self.players.pop(slot).port))
+        for port, slot in frame.played.joins.items():
+            self.players[slot] = Player(port)
+            frame.events.append(Event(frame.number, "joined", slot, port))
+        for slot, head in frame.heads.items():
+            player = self.players.setdefault(slot, Player(frame.ports[slot]))
+            if slot in joined:
+                player.origin = head.origin  # until its first move; a newcomer is where it joined
+
+    def run(self, frame: Frame, move: arena.Move) -> None:
+        """One entry of the journal."""
+        player = self.players.get(move.slot)
+        if player is None:
+            raise arena.FormatError(f"frame {frame.number}: slot {move.slot} moves, and has no snapshot")
+        if player.state >= FALL and frame.number >= player.state - FALL:
+            player.state = 0
+        player.origin = move.origin
+        for thing in move.taken:
+            frame.events.append(Event(frame.number, "item", move.slot, thing))
+            if thing - arena.FIRST_THING < len(self.map.things):
+                self.away[thing] = frame.number + self.map.thing(thing).delay
+        if move.hit is not None and move.hit in self.players:
+            self.hit(frame, move)
+
+    def hit(self, frame: Frame, move: arena.Move) -> None:
+        target = self.players[move.hit]
+        target.state += DAMAGE
+        is_fall = target.state >= FALL
+        frame.shots.append(Shot(move.slot, move.hit, move.origin, target.origin, is_fall))
+        frame.events.append(Event(frame.number, "hit", move.slot, move.hit))
+        if is_fall:
+            target.state = FALL + frame.number + DOWN_FRAMES
+            self.players[move.slot].falls += 1
+            frame.events.append(Event(frame.number, "fell", move.hit, move.slot))
+
+    def close(self, frame: Frame) -> None:
+        for slot, head in frame.heads.items():
+            player = self.players[slot]
+            gain = head.score - player.score - player.falls
+            player.score, player.falls = head.score, 0
+            player.origin = head.origin
+            if gain > 0:
+                frame.events.append(Event(frame.number, "scored", slot, gain))
+            if head.has_leapt and any(move.slot == slot for move in frame.played.moves):
+                frame.events.append(Event(frame.number, "leapt", slot))
+            if player.state >= FALL:
+                frame.down.append(slot)
+        frame.away = dict(self.away)
+        frame.heights = {lift.thing.id: lift.height for lift in self.lifts}
+
+
+def answer(place: int, arrival: arena.Arrival, frame: Frame) -> Tuple[str, List[arena.Move]]:
+    """What came of a packet: `refused` and its name, `joined`, `leaves` or `moves`, and the moves."""
+    if place in frame.played.refusals:
+        return f"refused: {frame.played.refusals[place]}", []
+    try:
+        packet = arena.read_packet(arrival.data)
+    except arena.PacketFault as why:
+        return f"not a packet: {why.name}", []
+    if packet.kind == "join":
+        return f"joined as slot {frame.played.joins.get(arrival.port, '?')}", []
+    if packet.kind == "leave":
+        return "leaves at the end of the frame", []
+    slots = {port: slot for slot, port in frame.ports.items()}
+    numbers = {command.number for command in packet.commands}
+    moves = [move for move in frame.played.moves if move.slot == slots.get(arrival.port) and move.number in numbers]
+    return "moves", moves
