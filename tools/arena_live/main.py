@@ -119,7 +119,8 @@ class Live:
         try:
             udp, http = await self._listen(sessions, web)
             match = go_on() if go_on is not None else await self._new_match(ground, sessions)
-            say(f"the page is http://{self._words.bind}:{http}/ and UDP port {udp.port}")
+            host = f"[{self._words.bind}]" if ":" in self._words.bind else self._words.bind
+            say(f"the page is http://{host}:{http}/ and UDP port {udp.port}")
             say("Control-C ends the match")
             Bots(self._words.bots, sessions, ground).enter()
             await self._play(ground, sessions, match)

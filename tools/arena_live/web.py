@@ -13,6 +13,7 @@ from arena_live.metrics import Metrics
 from arena_live.sessions import GOODBYE, MOST_MESSAGE, Sessions
 
 PAGE = os.path.join(os.path.dirname(os.path.abspath(__file__)), "page")
+LOCAL = ("127.0.0.1", "::1", "localhost")
 # The paths that are answered; all others are not found.
 FILES = {
     "/": ("index.html", "text/html"),
@@ -59,10 +60,11 @@ class Web:
         self._sessions, self._metrics = sessions, metrics
         self._map = b"".join(line + b"\n" for line in ground.lines)
         self._numbers = itertools.count()
-        self._runner = None
+        self._runner, self._bind = None, ""
 
     async def listen(self, bind: str, port: int) -> int:
         """Serves on this address, and gives the port."""
+        self._bind = bind
         app = web.Application()
         app.router.add_get("/live", self._live)
         app.router.add_get("/map", self._send_map)
@@ -94,8 +96,7 @@ class Web:
 
     async def _live(self, request: web.Request) -> web.StreamResponse:
         """A client of its own for each socket; a page of another site gets none."""
-        origin = request.headers.get("Origin")
-        if origin is not None and urlsplit(origin).netloc != request.host:
+        if not self._is_own_page(request):
             raise web.HTTPForbidden(text="a page of another site asks for this socket\n")
         socket = web.WebSocketResponse(max_msg_size=MOST_MESSAGE, compress=False)
         await socket.prepare(request)
@@ -114,6 +115,17 @@ class Web:
             sending.cancel()
             await socket.close()
         return socket
+
+
+    def _is_own_page(self, request: web.Request) -> bool:
+        """Whether the page that asks came from here, and on a local address by a local name.
+
+        Else a site could point a name of its own to this machine, and its page would seem to be ours.
+        """
+        origin = request.headers.get("Origin")
+        host = urlsplit(f"//{request.host}").hostname
+        is_same = origin is None or urlsplit(origin).netloc == request.host
+        return is_same and (self._bind not in LOCAL or host in LOCAL)
 
 
 async def _add_headers(_request: web.Request, response: web.StreamResponse) -> None:
