@@ -1,0 +1,221 @@
+"""tools/live: lets people play on a map, in a browser or by UDP, and judges what they played.
+
+The program plays; this stands between it and the players' sockets, saves what came and what was answered, and at the
+end prints whether the one is right for the other. docs/LIVE.md has how, and what a client must know.
+
+statuses: 0 each match is right; 1 one is wrong; 2 the words, the map or the folder can't be used; 3 a match broke off,
+and `--resume` goes on with it; 4 one wasn't judged.
+"""
+import argparse
+import asyncio
+import itertools
+import os
+import signal
+import subprocess
+import sys
+import tempfile
+from typing import Callable, List, Optional, Tuple
+
+import arena
+import program
+from arena_live.bots import Bots
+from arena_live.match import Arena, Match
+from arena_live.metrics import Metrics
+from arena_live.pipe import ProgramEnded
+from arena_live.resume import resume
+from arena_live.saved import MOST_FRAMES, Saved, SaveFault, Settings, read_map
+from arena_live.sessions import GOODBYE, Sessions
+from arena_live.udp import Udp
+from arena_live.verdict import NOT_JUDGED, WRONG, judge
+
+try:
+    from arena_live.web import Web
+except ImportError:
+    Web = None
+
+ALL_RIGHT, ONE_WRONG, MISUSED, BROKEN_OFF, UNJUDGED = range(5)
+
+
+class Misuse(Exception):
+    """Why the front can't begin, as a sentence."""
+
+
+class BrokenOff(Exception):
+    """Why a match stopped before its end, as a sentence."""
+
+
+def number_from(least: int, most: int):
+    def read(word: str) -> int:
+        if not word.isascii() or not word.isdigit() or not least <= int(word) <= most:
+            raise argparse.ArgumentTypeError(f"{word!r} isn't a number from {least} to {most}")
+        return int(word)
+
+    return read
+
+
+def read_words() -> argparse.Namespace:
+    shape = argparse.RawDescriptionHelpFormatter
+    parser = argparse.ArgumentParser("live", description=__doc__, formatter_class=shape, allow_abbrev=False)
+    a_port, a_match = number_from(0, 65535), number_from(1, MOST_FRAMES)
+    add = parser.add_argument
+    add("map", metavar="MAP", nargs="?", help="a file with the lines of a map, as they begin each recording")
+    add("--bots", metavar="K", type=number_from(0, 64), default=0, help="players that the front brings (default 0)")
+    add("--workers", metavar="N", type=number_from(1, 16), default=1, help="workers of the program (default 1)")
+    add("--hz", metavar="F", type=number_from(1, 100), default=20, help="frames a second (default 20)")
+    add("--http", metavar="PORT", type=a_port, default=8765, help="of the page; 0 takes a free one (default 8765)")
+    add("--udp", metavar="PORT", type=a_port, default=27500, help="of UDP; 0 takes a free one (default 27500)")
+    add("--bind", metavar="ADDRESS", default="127.0.0.1", help="where both listen (default 127.0.0.1, this machine)")
+    add("--save", metavar="FOLDER", help="where the match is saved (default: a new folder among the temporary files)")
+    add("--resume", metavar="FOLDER", help="go on with the match that was saved there, in place of MAP")
+    add("--frames", metavar="N", type=a_match, help="end when the match has so many frames")
+    next_match = "frames of a match; then a new one begins, in FOLDER-2 and so on (default 100000, the most)"
+    add("--match", metavar="N", type=a_match, default=MOST_FRAMES, help=next_match)
+    words = parser.parse_args()
+    if (words.map is None) == (words.resume is None):
+        parser.error("one of MAP and --resume FOLDER is wanted")
+    return words
+
+
+def say(text: str) -> None:
+    """Prints a line. A match goes on without a reader of these."""
+    try:
+        print(f"live: {text}", flush=True)
+    except BrokenPipeError:
+        os.dup2(os.open(os.devnull, os.O_WRONLY), sys.stdout.fileno())
+
+
+class Live:
+    """A run of the front: matches one after another, on the same sockets."""
+
+    def __init__(self, words: argparse.Namespace):
+        self._words, self._metrics = words, Metrics()
+        self._stop = asyncio.Event()
+        self._folder = words.resume or words.save
+        self._judging: List[asyncio.Task] = []
+
+    async def run(self) -> int:
+        words = self._words
+        for number in (signal.SIGINT, signal.SIGTERM):
+            asyncio.get_running_loop().add_signal_handler(number, self._stop.set)
+        if words.resume is not None:
+            resumed = await resume(words.resume, program.PROGRAM)
+            try:
+                ground = Arena(*read_map(resumed.saved.recording_path), program.PROGRAM)
+                sessions = Sessions(self._metrics, resumed.saved.settings.hz)
+                say(f"resumed at frame {resumed.frame}")
+                await self._serve(ground, sessions, lambda: Match(ground, sessions, self._metrics, resumed))
+            finally:
+                await resumed.pipe.kill()
+        else:
+            ground = Arena(*read_map(words.map), program.PROGRAM)
+            refuse_bad_map(words.map, ground)
+            sessions = Sessions(self._metrics, words.hz)
+            await self._serve(ground, sessions, None)
+        return await self._report()
+
+    async def _serve(self, ground: Arena, sessions: Sessions, go_on: Optional[Callable[[], Match]]) -> None:
+        """Listens, plays, and says goodbye to all."""
+        udp, web = None, Web(ground, sessions, self._metrics)
+        try:
+            udp, http = await self._listen(sessions, web)
+            match = go_on() if go_on is not None else await self._new_match(ground, sessions)
+            host = f"[{self._words.bind}]" if ":" in self._words.bind else self._words.bind
+            say(f"the page is http://{host}:{http}/ and UDP port {udp.port}")
+            say("Control-C ends the match")
+            Bots(self._words.bots, sessions, ground).enter()
+            await self._play(ground, sessions, match)
+        finally:
+            for session in sessions:
+                session.send(GOODBYE + b"over")
+            await asyncio.sleep(0.05)  # so that it is sent
+            if udp is not None:
+                udp.close()
+            await web.close()
+
+    async def _new_match(self, ground: Arena, sessions: Sessions) -> Match:
+        """The first match, or a later one, in a folder of its own."""
+        if self._folder is None:
+            self._folder = tempfile.mkdtemp(prefix="arena-live-")
+        folder = self._folder
+        if self._judging:
+            numbered = (f"{self._folder.rstrip('/')}-{number}" for number in itertools.count(2))
+            folder = next(folder for folder in numbered if not os.path.exists(folder))
+        saved = Saved.create(folder, ground.lines, Settings(self._words.workers, sessions.hz))
+        return await Match.begin(ground, sessions, self._metrics, saved)
+
+    async def _listen(self, sessions: Sessions, web: "Web") -> Tuple[Udp, int]:
+        """The UDP socket, and the port of the page."""
+        words = self._words
+        try:
+            udp = Udp(sessions, self._metrics, words.bind, words.udp)
+        except OSError as why:
+            raise Misuse(f"UDP port {words.udp} of {words.bind} can't be had: {why.strerror}") from None
+        try:
+            return udp, await web.listen(words.bind, words.http)
+        except OSError as why:
+            udp.close()
+            raise Misuse(f"port {words.http} of {words.bind} can't be had: {why.strerror}") from None
+
+    async def _play(self, ground: Arena, sessions: Sessions, match: Match) -> None:
+        """Plays matches until the run is to end; each is judged while the next is played."""
+        words = self._words
+        try:
+            while True:
+                await match.run(self._stop, min(words.frames or MOST_FRAMES, words.match))
+                match.saved.close()
+                self._judging.append(asyncio.create_task(judge(ground.program, match.saved, match.frame)))
+                say(f"{match.frame} frames are saved in {match.saved.recording_path} and {match.saved.output_path}")
+                if self._stop.is_set() or words.frames is not None:
+                    return
+                match = await self._new_match(ground, sessions)
+        except (ProgramEnded, SaveFault) as why:
+            raise BrokenOff(f"{why}; `--resume {match.saved.folder}` goes on with what was saved") from None
+        finally:
+            await match.pipe.kill()
+
+    async def _report(self) -> int:
+        parts = {"median": 0.5, "99th": 0.99, "worst": 1}
+        times = ", ".join(f"{name} {1000 * self._metrics.quantile(part):.1f}" for name, part in parts.items())
+        counts = (self._metrics.counts[f"arena_{name}_total"] for name in ("frames", "late_frames", "joins", "moves"))
+        said = "{} frames, {} late, {} joins, {} moves".format(*counts)
+        say(f"{said}; milliseconds from when a frame was due until it was sent: {times}")
+        # From here on Control-C ends the judging.
+        asyncio.get_running_loop().remove_signal_handler(signal.SIGINT)
+        verdicts = await asyncio.gather(*self._judging)
+        for verdict in verdicts:
+            say(str(verdict))
+        kinds = {verdict.kind for verdict in verdicts}
+        return ONE_WRONG if WRONG in kinds else UNJUDGED if NOT_JUDGED in kinds else ALL_RIGHT
+
+
+def refuse_bad_map(path: str, ground: Arena) -> None:
+    """The program reads the map and a frame without packets, before anybody waits for it."""
+    text = b"\n".join([*ground.lines, b"frame", b"end", b""])
+    done = subprocess.run([ground.program, "play", "1"], input=text, capture_output=True, start_new_session=True)
+    if done.returncode != 0:
+        said = done.stderr.decode("ascii", "replace").strip() or f"status {done.returncode}"
+        raise Misuse(f"{path} is no map that the program takes: {said}; `tools/why` says it in words")
+
+
+def why_not() -> Optional[str]:
+    """What this machine lacks, or None."""
+    if Web is None:
+        return f"{sys.executable} has no aiohttp: `apt-get install python3-aiohttp`, and run it by /usr/bin/python3"
+    return program.lacking()
+
+
+def main() -> int:
+    words = read_words()
+    try:
+        if (why := why_not()) is not None:
+            raise Misuse(why)
+        return asyncio.run(Live(words).run())
+    except (Misuse, SaveFault, ProgramEnded, arena.FormatError) as fault:
+        say(str(fault))
+        return MISUSED
+    except BrokenOff as fault:
+        say(f"the match broke off: {fault}")
+        return BROKEN_OFF
+    except KeyboardInterrupt:
+        say("not judged: it was stopped")
+        return UNJUDGED

@@ -1,0 +1,139 @@
+"""The folder of a match: `match.demo`, its recording, `match.out`, its output, and `match.json`, how it is played.
+
+A frame's packets are in the recording before the program gets them, and its text is in the output before a client sees
+anything of it. Both are handed to the system at once, so they outlive the front and the program, but no loss of power.
+"""
+import fcntl
+import json
+import os
+from dataclasses import asdict, dataclass
+from typing import BinaryIO, List, Sequence, Tuple
+
+import arena
+
+MOST_FRAMES = 100_000
+
+
+class SaveFault(Exception):
+    """Why a folder can't be used or written, as a sentence."""
+
+
+@dataclass(frozen=True)
+class Settings:
+    """What a resumed match must know beside its two files, and what these are called."""
+
+    workers: int
+    hz: int
+    name: str = "match"
+
+
+def read_map(path: str) -> Tuple[arena.Map, List[bytes]]:
+    """The map of a file and its lines: those of a recording before its first frame, or all of them."""
+    lines, map_ = [], arena.Map()
+    with arena.opened(path) as file:
+        for number, line in enumerate(file, 1):
+            line = line.removesuffix(b"\n").removesuffix(b"\r")
+            if line in (b"frame", b"end"):
+                break
+            try:
+                map_.take(line)
+            except ValueError as why:
+                raise arena.FormatError(f"{path}, line {number}: {why}") from None
+            lines.append(line)
+    if not map_.spawns:
+        raise arena.FormatError(f"{path} has no spawn, so nobody could join")
+    return map_, lines
+
+
+def frame_text(arrivals: Sequence[Tuple[int, bytes]], closing: bytes) -> bytes:
+    """The lines of a frame's packets, and the line that closes the frame: `frame`, which opens the next, or `end`."""
+    lines = [b"from %d %s\n" % (port, data.hex().encode() or b"-") for port, data in arrivals]
+    return b"".join(lines) + closing + b"\n"
+
+
+class Saved:
+    """An open folder of a match, held by this process alone."""
+
+    def __init__(self, folder: str, settings: Settings):
+        self.folder, self.settings = folder, settings
+        self._lock = _locked(folder)
+        self._recording = self._output = None
+
+    @property
+    def recording_path(self) -> str:
+        return os.path.join(self.folder, self.settings.name + ".demo")
+
+    @property
+    def output_path(self) -> str:
+        return os.path.join(self.folder, self.settings.name + ".out")
+
+    @classmethod
+    def create(cls, folder: str, map_lines: Sequence[bytes], settings: Settings) -> "Saved":
+        """A new match: the recording has the map and its first frame is open."""
+        try:
+            os.makedirs(folder, exist_ok=True)
+            saved = cls(folder, settings)
+            if os.path.exists(os.path.join(folder, "match.json")):
+                raise SaveFault(f"{folder} has a match already; `--resume {folder}` goes on with it")
+            saved.write_settings()
+            saved.open("xb")
+        except OSError as why:
+            raise SaveFault(f"{folder} can't be used: {why.strerror}") from None
+        saved.add_packets(saved.opening(map_lines))
+        return saved
+
+    @classmethod
+    def reopen(cls, folder: str) -> "Saved":
+        """The folder of a match that was saved before; `open` comes once its files are as they should be."""
+        try:
+            with open(os.path.join(folder, "match.json"), encoding="ascii") as file:
+                settings = Settings(**json.load(file))
+            return cls(folder, settings)
+        except OSError as why:
+            raise SaveFault(f"{folder} has no match to resume: {why.strerror}") from None
+        except (ValueError, TypeError):
+            raise SaveFault(f"{folder} has no match to resume: match.json isn't one of `tools/live`") from None
+
+    @staticmethod
+    def opening(map_lines: Sequence[bytes]) -> bytes:
+        return b"".join(line + b"\n" for line in [*map_lines, b"frame"])
+
+    def write_settings(self) -> None:
+        path = os.path.join(self.folder, "match.json")
+        with open(path + ".new", "w", encoding="ascii") as file:
+            json.dump(asdict(self.settings), file)
+        os.replace(path + ".new", path)
+
+    def open(self, mode: str) -> None:
+        # Unbuffered: what `write` has taken is the system's.
+        self._recording = open(self.recording_path, mode, buffering=0)
+        self._output = open(self.output_path, mode, buffering=0)
+
+    def add_packets(self, text: bytes) -> None:
+        self._write(self._recording, text)
+
+    def add_answer(self, text: bytes) -> None:
+        self._write(self._output, text)
+
+    def _write(self, file: BinaryIO, text: bytes) -> None:
+        rest = memoryview(text)
+        try:
+            while rest:
+                rest = rest[file.write(rest) :]
+        except OSError as why:
+            raise SaveFault(f"{file.name} can't be written: {why.strerror}") from None
+
+    def close(self) -> None:
+        for file in (self._recording, self._output, self._lock):
+            if file is not None:
+                file.close()
+
+
+def _locked(folder: str) -> BinaryIO:
+    file = open(os.path.join(folder, "lock"), "wb")
+    try:
+        fcntl.flock(file, fcntl.LOCK_EX | fcntl.LOCK_NB)
+    except OSError:
+        file.close()
+        raise SaveFault(f"the match in {folder} is being played by another process") from None
+    return file
