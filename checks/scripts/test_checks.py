@@ -1,0 +1,45 @@
+"""What the checks say where a user gives them nothing to do, or what they need isn't there."""
+import os
+import subprocess
+import sys
+import unittest
+
+from calls import SECONDS, Calls
+from common import CHECKS, PROGRAM
+
+
+class Checks(Calls):
+    def check(self, name, *words, **environment):
+        done = subprocess.run(
+            [sys.executable, os.path.join(CHECKS, name), *words], capture_output=True, timeout=SECONDS,
+            env={**os.environ, "ARENA_CLI": PROGRAM, **environment},
+        )
+        self.assertNotIn(b"Traceback", done.stderr)
+        return done.stderr, done.returncode
+
+    def test_an_empty_folder(self):
+        for name in ("workers", "feeders"):
+            error, status = self.check(name, self.folder)
+            self.assertEqual((error.split(b"\n")[0], status), (f"{name}: there is no recording in these folders".encode(), 2))
+
+    def test_a_dangling_link(self):
+        os.symlink("/none", self.path("a.demo"))
+        for name in ("workers", "feeders"):
+            error, status = self.check(name, self.folder)
+            self.assertIn(b"can't be read: No such file", error)
+            self.assertEqual(status, 1)
+
+    def test_no_compiler(self):
+        error, status = self.check("refuse_memory", "check", PATH=self.folder)
+        self.assertIn(b"a C compiler is needed", error)
+        self.assertEqual(status, 2)
+
+    def test_no_program(self):
+        for name, words in (("play", []), ("play", ["--built"]), ("workers", []), ("transcripts", []), ("soak", ["1", "1"])):
+            error, status = self.check(name, *words, ARENA_CLI="/none/program")
+            self.assertIn(b"there is no program /none/program", error)
+            self.assertEqual(status, 2)
+
+
+if __name__ == "__main__":
+    unittest.main()
