@@ -20,9 +20,10 @@ A module for scripts of one's own, and what those beside it stand on. It needs P
 
     arena.packet_line(7, arena.join())                  # "from 7 0101"
 
-Files are read line by line, as they come, so their length doesn't matter. What isn't of the format raises `FormatError`,
-whose text is a sentence with the number of the line. It isn't the program's reader: which recordings are refused, and by
-which fault, `arena_cli` says (`tools/why`). Lengths are in sub-units, 256 of a unit. docs/FORMATS.md has the formats.
+Files are read line by line, as they come, so their length doesn't matter. What isn't of the format raises
+`FormatError`, whose text is a sentence with the number of the line. It isn't the program's reader: which recordings
+are refused, and by which fault, `arena_cli` says (`tools/why`). Lengths are in sub-units, 256 of a unit.
+docs/FORMATS.md has the formats.
 """
 import binascii
 import contextlib
@@ -451,7 +452,8 @@ def read_snapshot(data: bytes) -> Snapshot:
         raise SnapshotFault("Order")
     is_in_limits = head.count <= MOST_ENTITIES and has_limits(head)
     for number, kind, status, *_ in rows:
-        is_in_limits = is_in_limits and number <= 511 and kind < len(KINDS) and (status == 1 or status == 0 and kind in (1, 2))
+        is_status = status == 1 or status == 0 and kind in (1, 2)
+        is_in_limits = is_in_limits and number <= 511 and kind < len(KINDS) and is_status
     if not is_in_limits:
         raise SnapshotFault("Count")
     if len(data) > HEAD_BYTES + ENTITY_BYTES * head.count:
@@ -494,8 +496,8 @@ def _arrival(fields: Sequence[bytes], line: int) -> Arrival:
 class Recording:
     """A recording: its map is read at once, and its frames as they are asked for, once.
 
-    `has_ended` says whether the line `end` was come to; a recording that ends before it has given all of its frames, the
-    last one with the packets that were there.
+    `has_ended` says whether the line `end` was come to; a recording that ends before it has given all of its frames,
+    the last one with the packets that were there.
     """
 
     def __init__(self, file: BinaryIO):
@@ -608,8 +610,8 @@ def _slot(word: bytes) -> int:
 class Output:
     """The output of `play` or `feed`: its frames as they are asked for, once.
 
-    `frames` is the number that the line `end` says, or None where that line wasn't come to. A line that is cut, as a write
-    fault leaves it, isn't read, and `is_cut` says so.
+    `frames` is the number that the line `end` says, or None where that line wasn't come to. A line that is cut, as a
+    write fault leaves it, isn't read, and `is_cut` says so.
     """
 
     def __init__(self, file: BinaryIO):
@@ -637,7 +639,8 @@ class Output:
                         return
                     frame = PlayedFrame(number, self.line)
                 elif frame is None:
-                    raise ValueError(f"{printable(line_front(line))!r} is no line `frame K` or `end K`, so it is no output")
+                    front = printable(line_front(line))
+                    raise ValueError(f"{front!r} is no line `frame K` or `end K`, so it is no output")
                 else:
                     frame.take(line, self.line)
             except ValueError as why:

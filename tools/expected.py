@@ -1,8 +1,9 @@
 """What a frame of an output should be, by playing its moves in the order of the frame's own `did` lines.
 
-`play 1` runs the moves of a frame in the order of arrival. So a recording in which the packets of each frame stand in the
-order of its `did` lines, each new command of a move packet as a packet of its own where its turn asks for that, gives the
-same moves with one worker. Refused packets, joins and leaves don't depend on the order of the moves of their own frame.
+`play 1` runs the moves of a frame in the order of arrival. So a recording in which the packets of each frame stand
+in the order of its `did` lines, each new command of a move packet as a packet of its own where its turn asks for
+that, gives the same moves with one worker. Refused packets, joins and leaves don't depend on the order of the moves
+of their own frame.
 """
 import io
 from collections import Counter
@@ -77,7 +78,7 @@ class Journalled:
         turns = self.ordered(commands, journal)
         packets = first + in_turns(turns) + last
         if len(packets) > LINES_A_FRAME:
-            raise arena.FormatError("the frame has more turns than a frame has lines, so it can't be played in this order")
+            raise arena.FormatError("the frame has more turns than lines are allowed, so it can't be played in this order")
         for port, _ in last:
             del self.players[port]
         return [arena.packet_line(port, data) for port, data in packets]

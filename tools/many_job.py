@@ -2,11 +2,11 @@
 
 usage: many_job.py MODE PROGRAM WORKERS NAME FOLDER
 
-It stands alone, since it is copied to other machines. MODE is `play` (NAME is a recording, played with so many workers),
-`pairs` (NAME is a recording, and beside it is its output) or `logs` (NAME is a log, or beside it is the map of which it
-is one). A file NAME of the current folder is taken before the one in FOLDER. Nothing is written to a file: the output goes
-from the program into `check` or `audit` as it comes. The programs that it runs end with it, however it ends. The status is
-0 where the output is right, and 1 where something else came of it.
+It stands alone, since it is copied to other machines. MODE is `play` (NAME is a recording, played with so many
+workers), `pairs` (NAME is a recording, and beside it is its output) or `logs` (NAME is a log, or beside it is the
+map of which it is one). A file NAME of the current folder is taken before the one in FOLDER. Nothing is written to a
+file: the output goes from the program into `check` or `audit` as it comes. The programs that it runs end with it,
+however it ends. The status is 0 where the output is right, and 1 where something else came of it.
 """
 import ctypes
 import gzip
@@ -101,7 +101,8 @@ def verdict(said, error, status):
     refused = REFUSED.fullmatch(error)
     if status == 1 and refused:
         is_long = int(refused[2]) == TOO_MANY
-        return {"end": "long" if is_long else "refused", "line": int(refused[1]), "fault": int(refused[2]), "said": error}
+        end = "long" if is_long else "refused"
+        return {"end": end, "line": int(refused[1]), "fault": int(refused[2]), "said": error}
     if status == 6:
         return {"end": "wrong", "said": error}
     return {"end": "failed", "said": error or f"the judging program ended with status {status}"}

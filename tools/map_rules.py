@@ -13,7 +13,8 @@ def side(bounds):
     for axis in range(3):
         length = bounds[axis + 3] - bounds[axis]
         if length < LEAST_SIDE:
-            return f"on {AXES[axis]} the arena reaches from {bounds[axis]} to {bounds[axis + 3]}, which is {length} long"
+            reach = f"on {AXES[axis]} the arena reaches from {bounds[axis]} to {bounds[axis + 3]}"
+            return f"{reach}, which is {length} long"
     return None
 
 

@@ -1,7 +1,8 @@
 """A match as it ran, frame by frame: what `replay` and `stats` know of a recording and its output beyond their lines.
 
-`frames` goes through both at once. A player's damage and who is down follow from the journals (docs/FORMATS.md, "Shots"),
-and so does which items are away. A lift goes by itself where no player is near; where one is, its snapshot shows the lift.
+`frames` goes through both at once. A player's damage and who is down follow from the journals (docs/FORMATS.md,
+"Shots"), and so does which items are away. A lift goes by itself where no player is near; where one is, its snapshot
+shows the lift.
 """
 import struct
 from dataclasses import dataclass, field

@@ -66,7 +66,7 @@ def begin(text, needs=PROGRAM, wrong=lambda words: None):
 
 
 def sentence_of(error):
-    """What a user's doing raised, as a sentence, and the status that goes with it; None where it is a fault of the script."""
+    """What a user's doing raised, as a sentence, and the status that goes with it; None for a fault of the script."""
     if isinstance(error, KeyboardInterrupt):
         return "stopped", STOPPED
     if isinstance(error, arena.FormatError):
@@ -86,7 +86,8 @@ def sentence_of(error):
 def perform(work):
     """Does the work and ends the script with the status that it gives, None for 0.
 
-    What a user can cause, as a closed pipe, a full disk or a file of another format, ends it with a sentence and status 1.
+    What a user can cause, as a closed pipe, a full disk or a file of another format, ends it with a sentence and
+    status 1.
     """
     try:
         if sys.stdout is None:
