@@ -38,7 +38,7 @@ def misused(text, why):
 def lacking(path=PROGRAM):
     """Why the program at this path can't be run, or None."""
     if not os.path.exists(path):
-        return f"there is no program {path}; `rt run` in crates/arena_cli builds it (README.md, \"Run it\")"
+        return f"there is no program {path}; tools/build makes one in two minutes, `rt run` in crates/arena_cli a proved one"
     if not os.access(path, os.X_OK) or os.path.isdir(path):
         return f"{path} isn't a program that can be run"
     return None
