@@ -12,6 +12,7 @@ ghost use Rattle.arena_actions.specs.Leaps.{IsNearLeap, leaps_of, landing_by};
 use crate::leaps::{Leap, Leaps};
 use crate::reaching::{amount, reach_on};
 use arena_geo::{Aabb, Region, Vec3};
+use arena_outcomes::ROOM;
 use entity_recs::{Cmd, Rec, abs_box};
 use player_move::STAIR_HEIGHT;
 
