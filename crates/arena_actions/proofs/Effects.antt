@@ -6,7 +6,7 @@ use Rattle.entity_recs.specs.declared.effect.NewState.{NewState}
 use Rattle.entity_recs.specs.Commands.{Command}
 use Rattle.arena_map.specs.Maps.{MapView}
 use Rattle.trigger_rules.specs.Touching.{touched}
-use Rattle.arena_actions.specs.Outcomes.{effect_of, moved_among, outcome_in}
+use Rattle.arena_outcomes.specs.Outcomes.{effect_of, moved_among, outcome_in}
 
 -- the effect with these parts
 abbrev pub effect_with : Rec → List NewState → List ℕ → Effect

@@ -1,10 +1,9 @@
 -- Lemmas on the action of an arena.
 pub mod Marking
 pub mod Indexing
+pub mod Leaping
 pub mod Keeping
 pub mod Rising
 pub mod Effects
 pub mod Shooting
-pub mod OnMaps
-pub mod Nearness
-pub mod Flags
+pub mod OfItsMap

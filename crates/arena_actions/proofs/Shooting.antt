@@ -11,15 +11,15 @@ use Rattle.entity_recs.specs.declared.effect.NewState.{NewState}
 use Rattle.entity_recs.specs.declared.rec.Rec.{Rec}
 use Rattle.entity_recs.specs.Commands.{Command}
 use Rattle.arena_map.specs.Maps.{MapView, IsMap, solids_of}
-use Rattle.trigger_rules.specs.Touching.{Walk, walk_of, first_walk, touched}
+use Rattle.trigger_rules.specs.Touching.{Walk, walk_of, touched}
 use Rattle.trigger_rules.specs.Laws.{IsPlayerOn}
 use Rattle.shot_rules.specs.Targets.{is_set, shot_box, shot_range, range_if_any, has_aim, way_along}
-use Rattle.shot_rules.specs.Shots.{is_down, is_fired, after_meeting, spent, after_shot}
+use Rattle.shot_rules.specs.Shots.{is_fired, after_meeting, spent, after_shot}
 use Rattle.shot_rules.proofs.Ways.{stays_in_range}
 use Rattle.shot_rules.proofs.Hits.{firing, fired_is, unfired_is, stay_shooters, only_way_matters}
-use Rattle.arena_actions.specs.Outcomes.{moved_among, effect_of, outcome_in, risen, lying, shooting_in, shot_outcome}
+use Rattle.arena_outcomes.specs.Outcomes.{moved_among, effect_of, outcome_in, shooting_in}
+use Rattle.arena_outcomes.proofs.Lawful.Moves.{stay_on_maps, take_what_is_there}
 use Rattle.arena_actions.proofs.Keeping.{filter_again}
-use Rattle.arena_actions.specs.Lawful.Moves.{stay_on_maps, take_what_is_there}
 
 module _ (arena : MapView) (me : Rec) (near : List Rec) (c : Command) (e : Effect) (e_is : e ≡ outcome_in arena me near c) where
   -- the player that has moved is on the map
@@ -49,19 +49,6 @@ module _ (arena : MapView) (me : Rec) (near : List Rec) (c : Command) (e : Effec
       let origin : e.reply.origin ≡ (after_shot (solids_of arena) near c w).me.origin =
       ap (λ (x : Effect). x.reply.origin) e_is ∙ sym (ap (λ (r : Rec). r.origin) (stay_shooters (solids_of arena) near c w).same) in
       λ i. record { me = (same i).me; states = (same i).states; reply = record { origin = origin i; got = (same i).got } }
-
--- a player that is down lies where it is, and one that isn't moves
-pub down_is : (arena : MapView) (me : Rec) (near : List Rec) (c : Command) → is_down me c.frame ≡ true
-    → effect_of (first_walk (lying me c.seq)) ≡ shot_outcome arena me near c
-unfolding shot_outcome
-down_is arena me near c down =
-    sym (ap (λ (t : Bool). cond t (effect_of (first_walk (lying me c.seq))) (shooting_in arena (risen me) near c)) down)
-
-pub moves_is : (arena : MapView) (me : Rec) (near : List Rec) (c : Command) → is_down me c.frame ≡ false
-    → shooting_in arena (risen me) near c ≡ shot_outcome arena me near c
-unfolding shot_outcome
-moves_is arena me near c up =
-    sym (ap (λ (t : Bool). cond t (effect_of (first_walk (lying me c.seq))) (shooting_in arena (risen me) near c)) up)
 
 -- ---- the walls and blocks that a shot meets are in its range
 

@@ -8,7 +8,7 @@ use Rattle.entity_recs.specs.declared.rec.Rec.{Rec}
 use Rattle.entity_recs.specs.Bodies.{abs_of}
 use Rattle.arena_map.specs.Maps.{MapView, entities_of, dest_of}
 use Rattle.arena_actions.specs.declared.leaps.Leap.{Leap}
-use Rattle.arena_actions.specs.Regions.{landing_at}
+use Rattle.arena_outcomes.specs.Regions.{landing_at}
 
 -- the leap of a thing of the map, if it is a teleporter
 abbrev pub leap_of : MapView → Rec → Option Leap

@@ -2,7 +2,8 @@ ghost use Rattle.arena_map.specs.Maps.{IsMap, solids_of};
 ghost use Rattle.arena_actions.specs.Indexes.{IsIndexOf};
 ghost use Rattle.std.specs.Prelude.{◌≡◌};
 ghost use Rattle.arena_actions.specs.Leaps.{leaps_of};
-ghost use Rattle.arena_actions.specs.Props.{IsMap-prop, IsIndexOf-prop, AreLeaps-prop};
+ghost use Rattle.arena_outcomes.proofs.Props.{IsMap-prop};
+ghost use Rattle.std.proofs.Props.{props};
 
 use crate::leaps::Leaps;
 use crate::moving::moved_player;
@@ -22,8 +23,8 @@ pub struct ArenaAction {
     pub(crate) index: SolidIndex,
     pub(crate) leaps: Leaps,
     pub ghost is_map: { IsMap map } by { IsMap-prop map },
-    ghost are_leaps: { leaps ≡ leaps_of map } by { AreLeaps-prop leaps map },
-    pub ghost misses_none: { IsIndexOf index (solids_of map) } by { IsIndexOf-prop index (solids_of map) },
+    ghost are_leaps: { leaps ≡ leaps_of map } by { Prim.hlevel props },
+    pub ghost misses_none: { IsIndexOf index (solids_of map) } by { Prim.hlevel props },
 }
 
 impl ArenaAction {
@@ -32,7 +33,7 @@ impl ArenaAction {
     ghost use Rattle.entity_recs.specs.Records.{IsRecord};
     ghost use Rattle.entity_recs.specs.Commands.{command_of};
     ghost use Rattle.trigger_rules.specs.Laws.{IsPlayerOn};
-    ghost use Rattle.arena_actions.specs.Outcomes.{outcome_in};
+    ghost use Rattle.arena_outcomes.specs.Outcomes.{outcome_in};
 
     /// The action of this map's arena.
     pub fn new(map: ArenaMap) -> ArenaAction

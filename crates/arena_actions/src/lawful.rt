@@ -2,13 +2,13 @@ use crate::arena_action::ArenaAction;
 use crate::map_action::MapAction;
 use crate::region::region_of;
 use crate::shot_action::ShotAction;
-use crate::sizes::{ROOM, SHOT_ROOM};
 use arena_geo::Region;
+use arena_outcomes::{ROOM, SHOT_ROOM};
 use entity_recs::{Action, Cmd, Effect, Rec};
 
 impl Action for ArenaAction {
-    ghost use Rattle.arena_actions.specs.Meanings.{meaning_of};
-    ghost use Rattle.arena_actions.specs.Lawful.{outcome_is_valid, outcome_is_local, outcome_stays_within};
+    ghost use Rattle.arena_outcomes.specs.Meanings.{meaning_of};
+    ghost use Rattle.arena_outcomes.proofs.Lawful.{outcome_is_valid, outcome_is_local, outcome_stays_within};
 
     ghost meaning = { λ a. meaning_of a.map };
 
@@ -28,8 +28,8 @@ impl Action for ArenaAction {
 }
 
 impl Action for ShotAction {
-    ghost use Rattle.arena_actions.specs.Meanings.{shot_meaning_of};
-    ghost use Rattle.arena_actions.specs.Lawful.{shots_are_valid, shots_are_local, shots_stay_within};
+    ghost use Rattle.arena_outcomes.specs.Meanings.{shot_meaning_of};
+    ghost use Rattle.arena_outcomes.proofs.Lawful.{shots_are_valid, shots_are_local, shots_stay_within};
 
     ghost meaning = { λ a. shot_meaning_of a.arena.map };
 
@@ -49,7 +49,10 @@ impl Action for ShotAction {
 }
 
 impl Action for MapAction {
-    ghost use Rattle.arena_actions.specs.MapActions.{meaning_in, in_valid, in_local, in_footprint};
+    ghost use Rattle.arena_outcomes.proofs.Lawful.{outcome_is_valid, outcome_is_local, outcome_stays_within};
+    ghost use Rattle.arena_outcomes.proofs.Lawful.{shots_are_valid, shots_are_local, shots_stay_within};
+    ghost use Rattle.arena_actions.specs.declared.map_action.MapAction.TheVariants.{Plain, Shots};
+    ghost use Rattle.arena_actions.specs.MapActions.{meaning_in};
 
     ghost meaning = { λ a. meaning_in a };
 
@@ -67,9 +70,18 @@ impl Action for MapAction {
         }
     }
 
-    ghost validity = { in_valid };
+    ghost validity = { elim [
+      | Plain a ↦ outcome_is_valid a.map a.is_map
+      | Shots a ↦ shots_are_valid a.arena.map a.arena.is_map
+    ] };
 
-    ghost locality = { in_local };
+    ghost locality = { elim [
+      | Plain a ↦ outcome_is_local a.map a.is_map
+      | Shots a ↦ shots_are_local a.arena.map a.arena.is_map
+    ] };
 
-    ghost footprint = { in_footprint };
+    ghost footprint = { elim [
+      | Plain a ↦ outcome_stays_within a.map a.is_map
+      | Shots a ↦ shots_stay_within a.arena.map a.arena.is_map
+    ] };
 }

@@ -19,7 +19,7 @@ impl MapAction {
     ghost use Rattle.entity_recs.specs.Commands.{command_of};
     ghost use Rattle.arena_map.specs.Maps.{IsMap};
     ghost use Rattle.trigger_rules.specs.Laws.{IsPlayerOn};
-    ghost use Rattle.arena_actions.specs.Outcomes.{outcome_on};
+    ghost use Rattle.arena_outcomes.specs.Outcomes.{outcome_on};
     ghost use Rattle.arena_actions.specs.MapActions.{map_in, IsOfItsMap, IsActionOf};
 
     /// The action of this map.

@@ -9,7 +9,7 @@ ghost use Rattle.player_move.specs.Laws as moves;
 ghost use Rattle.arena_map.specs.Maps.{solids_of};
 ghost use Rattle.trigger_rules.specs.Touching.{solids_among};
 ghost use Rattle.arena_actions.specs.Indexes.{IsIndexOf};
-ghost use Rattle.arena_actions.specs.Outcomes as outcomes;
+ghost use Rattle.arena_outcomes.specs.Outcomes as outcomes;
 
 use crate::boxes::Boxes;
 use crate::looking::looked_at;

@@ -5,14 +5,14 @@ ghost use Rattle.entity_recs.specs.declared.kind.Kind.TheVariants.{Player};
 ghost use Rattle.entity_recs.specs.Records.{IsRecord};
 ghost use Rattle.entity_recs.specs.Commands.{command_of};
 ghost use Rattle.arena_map.specs.Maps.{MapView};
-ghost use Rattle.arena_actions.specs.Regions as regions;
-ghost use Rattle.arena_actions.specs.Regions.{region_with};
+ghost use Rattle.arena_outcomes.specs.Regions as regions;
+ghost use Rattle.arena_outcomes.specs.Regions.{region_with};
 ghost use Rattle.arena_actions.specs.Leaps.{IsNearLeap, leaps_of, landing_by};
 
 use crate::leaps::{Leap, Leaps};
 use crate::reaching::{amount, reach_on};
-use crate::sizes::ROOM;
 use arena_geo::{Aabb, Region, Vec3};
+use arena_outcomes::ROOM;
 use entity_recs::{Cmd, Rec, abs_box};
 use player_move::STAIR_HEIGHT;
 

@@ -4,7 +4,7 @@ ghost use Rattle.entity_recs.specs.Records.{IsRecord};
 ghost use Rattle.entity_recs.specs.Commands.{command_of};
 ghost use Rattle.trigger_rules.specs.Touching.{first_walk, walk_of};
 ghost use Rattle.shot_rules.specs.Shots.{after_shot};
-ghost use Rattle.arena_actions.specs.Outcomes as outcomes;
+ghost use Rattle.arena_outcomes.specs.Outcomes as outcomes;
 
 use crate::arena_action::ArenaAction;
 use crate::boxes::Boxes;
@@ -90,7 +90,7 @@ impl ShotAction {
     ghost use Rattle.trigger_rules.specs.Laws.{IsPlayerOn};
     ghost use Rattle.shot_rules.specs.Targets.{range_if_any};
     ghost use Rattle.shot_rules.specs.Shots.{after_shot};
-    ghost use Rattle.arena_actions.specs.Outcomes.{shooting_in, shot_outcome};
+    ghost use Rattle.arena_outcomes.specs.Outcomes.{shooting_in, shot_outcome};
 
     /// The action of this map's arena.
     pub fn new(map: ArenaMap) -> ShotAction

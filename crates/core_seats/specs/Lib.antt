@@ -19,6 +19,5 @@ pub mod Going
 pub mod Sound
 pub mod Nexts
 pub mod Ready
-pub mod Staying
 pub mod StepsLeft
 pub mod Laws

@@ -11,7 +11,7 @@ use Rattle.core_steps.specs.Views.{Fixed, stage_of, is_busy, has}
 use Rattle.core_steps.specs.Machine.{Machine}
 use Rattle.core_steps.specs.Calls.{MayBeGiven, with_given}
 use Rattle.core_machine.proofs.Filled.{IsFilled}
-use Rattle.core_trials.specs.Errand.{errand_command}
+use Rattle.core_trials.specs.ErrandCommands.{errand_command}
 
 pub command_is : (slot buttons : ℕ) → slot < 64 → buttons < 2 ^ 8 → IsCommand (errand_command slot buttons)
 command_is slot buttons below small = record {

@@ -1,7 +1,6 @@
--- An action over one item and a teleporter, and its laws.
-pub use Rattle.core_seats.specs.Staying
+-- The commands of the tests, and the seats that they are given to.
 pub use Rattle.core_machine.specs.Cores
-pub mod Errand
+pub use Rattle.trial_outcomes.specs.Staying
+pub use Rattle.trial_outcomes.specs.Errand
+pub mod ErrandCommands
 pub mod Hands
-pub mod Keeping
-pub mod Lawful

@@ -1,11 +1,11 @@
 ghost use Rattle.std.specs.Prelude.{◌≡◌};
 ghost use Rattle.std.specs.List.{list_any};
 ghost use Rattle.entity_recs.specs.Commands.{command_of};
-ghost use Rattle.core_trials.specs.Errand as errands;
+ghost use Rattle.trial_outcomes.specs.Errand as errands;
 
-use crate::places::{ARRIVAL, ITEM};
 use arena_geo::{Region, Vec3};
 use entity_recs::{Action, Cmd, Effect, IdList, NewState, Rec, Reply, StateList, abs_box};
+use trial_outcomes::{ARRIVAL, ITEM};
 
 /// An action for tests, over a world with one item and a teleporter that each command can use. A command with bit 0 of
 /// its buttons set moves its player to [`ARRIVAL`], at rest; any other leaves it where it is. The item is taken where
@@ -71,8 +71,8 @@ fn has_free_item(near: &[Rec]) -> bool
 }
 
 impl Action for Errand {
-    ghost use Rattle.core_trials.specs.Errand as errands;
-    ghost use Rattle.core_trials.specs.Lawful as lawful;
+    ghost use Rattle.trial_outcomes.specs.Errand as errands;
+    ghost use Rattle.trial_outcomes.proofs.ErrandLaws as laws;
 
     ghost meaning = { λ a. errands.meaning };
 
@@ -97,9 +97,9 @@ impl Action for Errand {
         }
     }
 
-    ghost validity = { λ a. lawful.errand_is_valid };
+    ghost validity = { λ a. laws.errand_is_valid };
 
-    ghost locality = { λ a. lawful.errand_is_local };
+    ghost locality = { λ a. laws.errand_is_local };
 
-    ghost footprint = { λ a. lawful.errand_stays_within };
+    ghost footprint = { λ a. laws.errand_stays_within };
 }

@@ -3,7 +3,6 @@
 #![tactic(auto)]
 
 pub use errand::Errand;
-pub use places::{ARRIVAL, ITEM};
 pub use players::{FAR, FAR_AT_ONE, FIRST, LOW, MIDDLE, MIDDLE_AT_ONE, NEAR};
 pub use staying::Staying;
 pub use taking::is_taken;
@@ -11,7 +10,6 @@ pub use taking::is_taken;
 mod errand;
 #[cfg(test)]
 mod layout;
-mod places;
 #[cfg(test)]
 mod plain;
 mod players;

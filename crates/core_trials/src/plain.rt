@@ -5,7 +5,7 @@ ghost use Rattle.std.specs.List.Sorted.{IsStrictlyIncreasing};
 ghost use Rattle.entity_recs.specs.declared.rec.Rec.{Rec};
 ghost use Rattle.entity_recs.specs.Commands.{command_of};
 ghost use Rattle.entity_recs.specs.Actions.{IsCommand};
-ghost use Rattle.core_trials.specs.Errand as errands;
+ghost use Rattle.trial_outcomes.specs.Errand as errands;
 
 use crate::{Errand, is_taken};
 use entity_recs::{Action, Cmd, Effect, Rec};

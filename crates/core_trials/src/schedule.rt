@@ -7,7 +7,7 @@ ghost use Rattle.core_steps.specs.declared.sizes.TheConstants.{MOST_SEATS};
 ghost use Rattle.core_steps.specs.Views.{has};
 ghost use Rattle.core_steps.specs.Stands.{IsStart};
 ghost use Rattle.core_seats.specs.Shown.{fixed_of};
-ghost use Rattle.core_trials.specs.Errand.{errand_command};
+ghost use Rattle.core_trials.specs.ErrandCommands.{errand_command};
 ghost use Rattle.core_trials.specs.Hands.{HasOwnCommands};
 
 use areanode::Tree;

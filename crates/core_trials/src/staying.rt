@@ -5,7 +5,8 @@ use entity_recs::{Action, Cmd, Effect, IdList, Rec, Reply, StateList, abs_box};
 pub struct Staying;
 
 impl Action for Staying {
-    ghost use Rattle.core_seats.specs.Staying as staying;
+    ghost use Rattle.trial_outcomes.specs.Staying as staying;
+    ghost use Rattle.trial_outcomes.proofs.StayingLaws as laws;
 
     ghost meaning = { λ a. staying.meaning };
 
@@ -29,9 +30,9 @@ impl Action for Staying {
         }
     }
 
-    ghost validity = { λ a. staying.staying_is_valid };
+    ghost validity = { λ a. laws.staying_is_valid };
 
-    ghost locality = { λ a. staying.staying_is_local };
+    ghost locality = { λ a. laws.staying_is_local };
 
-    ghost footprint = { λ a. staying.staying_stays_within };
+    ghost footprint = { λ a. laws.staying_stays_within };
 }

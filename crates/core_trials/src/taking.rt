@@ -1,11 +1,11 @@
 ghost use Rattle.std.specs.Prelude.{◌≡◌, nat_lt};
 ghost use Rattle.arena_geo.specs.Vectors as vectors;
-ghost use Rattle.core_seats.specs.Staying as staying;
-ghost use Rattle.core_trials.specs.Errand as errands;
+ghost use Rattle.trial_outcomes.specs.Staying as staying;
+ghost use Rattle.trial_outcomes.specs.Errand as errands;
 
-use crate::places::ITEM;
 use arena_geo::Vec3;
 use entity_recs::{ITEM_MAXS, ITEM_MINS, Kind, PLAYER_MAXS, PLAYER_MINS, Rec};
+use trial_outcomes::ITEM;
 
 /// Whether each part is at most `far` from 0.
 fn is_near(v: &Vec3, far: u32) -> bool

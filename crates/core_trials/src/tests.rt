@@ -1,14 +1,15 @@
 ghost use Rattle.std.specs.Prelude.{◌≡◌, ◌<◌, length, IfSome};
 ghost use Rattle.areanode.specs.Trees.{IsTreeDepth};
 
+use crate::Errand;
 use crate::plain::{outcome_in, put_effect};
 use crate::players::{FAR, FIRST, MIDDLE, NEAR};
 use crate::schedule::{begun, buttons_of, command, run_at_random};
-use crate::{Errand, ITEM};
 use core_machine::Core;
 use entity_recs::{Action, Effect, Entry, Rec};
 use std::alloc::Global;
 use std::test::Fail;
+use trial_outcomes::ITEM;
 
 /// The world of each schedule: four players and the item.
 const WORLD: [Rec; 5] = [FIRST, NEAR, FAR, MIDDLE, ITEM];

@@ -23,7 +23,7 @@ use Rattle.plain_server.specs.Replies.{slots_of, replies_of}
 use Rattle.world_tree.specs.Worlds.{WorldView}
 use Rattle.arena_actions.specs.declared.map_action.MapAction.{MapAction}
 use Rattle.plain_server.specs.RecordsById.{world_of, records_in}
-use Rattle.arena_actions.specs.Outcomes.{outcome_on}
+use Rattle.arena_outcomes.specs.Outcomes.{outcome_on}
 use Rattle.plain_server.specs.Moving.{HasLivePlayer}
 use Rattle.plain_server.specs.Frames.{state_after_tick, received_in, moved_by}
 use Rattle.client_ports.proofs.Short.{moves_are_few}

@@ -1,6 +1,6 @@
 -- The definitions of a server between frames.
 pub use Rattle.plain_server.specs.RecordsById
-pub use Rattle.arena_actions.specs.Outcomes
+pub use Rattle.arena_outcomes.specs.Outcomes
 pub use Rattle.plain_server.specs.Moving
 pub use Rattle.plain_server.specs.Entries
 pub use Rattle.plain_server.specs.Frames

@@ -14,10 +14,11 @@ use Rattle.arena_map.specs.Maps.{MapView, IsMap}
 use Rattle.arena_map.specs.Validity.{IsValidWorld}
 use Rattle.entity_recs.specs.Actions.{Meaning}
 use Rattle.arena_actions.specs.declared.map_action.MapAction.{MapAction}
-use Rattle.arena_actions.specs.MapActions.{map_in, meaning_in, IsOfItsMap, means_its_map}
-use Rattle.arena_actions.specs.Outcomes.{outcome_on}
-use Rattle.arena_actions.specs.Takes.{takes}
-use Rattle.arena_actions.specs.Lawful.Worlds.{valid_is_taken}
+use Rattle.arena_actions.specs.MapActions.{map_in, meaning_in, IsOfItsMap}
+use Rattle.arena_actions.proofs.OfItsMap.{means_its_map}
+use Rattle.arena_outcomes.specs.Outcomes.{outcome_on}
+use Rattle.arena_outcomes.specs.Takes.{takes}
+use Rattle.arena_outcomes.proofs.Lawful.Worlds.{valid_is_taken}
 use Rattle.world_tree.specs.Live.{live_in, ids_of}
 use Rattle.world_tree.specs.Worlds.{WorldView, IsLinked}
 use Rattle.core_steps.specs.Views.{has}

@@ -80,7 +80,7 @@ impl<'a> StartedMoves<'a> {
     ghost use Rattle.entity_recs.specs.Histories.{run};
     ghost use Rattle.move_journal.specs.Merges.{HasNumbersApart, IsRight, IsInOrder, history_of};
     ghost use Rattle.arena_map.specs.Validity.{IsValidWorld};
-    ghost use Rattle.arena_actions.specs.Outcomes.{outcome_on};
+    ghost use Rattle.arena_outcomes.specs.Outcomes.{outcome_on};
     ghost use Rattle.plain_server.specs.RecordsById.{world_of, records_in};
     ghost use Rattle.plain_server.specs.Moving.{HasLivePlayer};
     ghost use Rattle.move_phase.specs.Serving.{AreWorkers};

@@ -8,7 +8,7 @@ use Rattle.entity_recs.specs.Bodies.{body_of}
 use Rattle.arena_actions.specs.declared.map_action.MapAction.{MapAction}
 use Rattle.arena_actions.specs.declared.map_action.MapAction.TheVariants.{Plain, Shots}
 use Rattle.arena_actions.specs.MapActions.{map_in, meaning_in}
-use Rattle.arena_actions.specs.Lawful.Taking.{player_is_taken}
+use Rattle.arena_outcomes.proofs.Lawful.Taking.{player_is_taken}
 
 -- a player inside the arena, whose numbers have 32 bits
 pub player_taken : (action : MapAction) (r : Rec) → r.kind ≡ Player → IsRecord r → r.score ≤ 4294967295 → r.seq < 4294967296 → contains (map_in action).bounds (body_of r) ≡ true

@@ -18,7 +18,7 @@ use Rattle.entity_recs.specs.Kinds.{is_item}
 use Rattle.move_journal.specs.Merges.{history_of}
 use Rattle.arena_map.specs.Maps.{MapView, IsMap}
 use Rattle.arena_map.specs.Validity.{IsValidWorld}
-use Rattle.arena_actions.proofs.OnMaps.{stay_movers}
+use Rattle.arena_outcomes.proofs.OnMaps.{stay_movers}
 use Rattle.world_tree.specs.Live.{record_at}
 use Rattle.world_tree.proofs.LiveRecords.{live_below}
 use Rattle.packet_read.specs.declared.arrival.Arrival.{Arrival}

@@ -15,7 +15,7 @@ use Rattle.arena_map.specs.Maps.{MapView, IsMap, entities_of}
 use Rattle.arena_map.specs.Validity.{IsOpeningWorld}
 use Rattle.arena_map.proofs.Kept.{each-of}
 use Rattle.arena_map.proofs.ThingRecords.{entities-are, entities-apart}
-use Rattle.arena_actions.specs.Outcomes.{outcome_on}
+use Rattle.arena_outcomes.specs.Outcomes.{outcome_on}
 use Rattle.world_tree.proofs.Links.{id-below, record_at-empty}
 use Rattle.packet_read.specs.declared.arrival.Arrival.{Arrival}
 use Rattle.client_ports.specs.declared.client.Client.{Client}

@@ -11,7 +11,7 @@ use Rattle.entity_recs.specs.Worlds.{World, others_of, record_or_nobody}
 use Rattle.entity_recs.specs.Histories.{apply, world_after, with_new_state}
 use Rattle.arena_map.specs.Maps.{MapView, IsMap}
 use Rattle.arena_map.specs.Validity.{IsValidRecord, IsValidWorld}
-use Rattle.arena_actions.specs.Outcomes.{outcome_on}
+use Rattle.arena_outcomes.specs.Outcomes.{outcome_on}
 use Rattle.world_tree.specs.Live.{record_at}
 use Rattle.world_tree.proofs.LiveRecords.{live_below}
 use Rattle.client_ports.proofs.Valid.{valid-with}

@@ -17,9 +17,9 @@ use Rattle.trigger_rules.specs.Touching.{solids_among, touched}
 use Rattle.trigger_rules.specs.Laws.{IsPlayerOn}
 use Rattle.shot_rules.specs.Laws.{IsShooterAfter}
 use Rattle.shot_rules.proofs.Hits.{stay_shooters}
-use Rattle.arena_actions.specs.Outcomes.{moved_among, outcome_in, risen, lying, shooting_in, outcome_on}
-use Rattle.arena_actions.proofs.OnMaps.{IsMove, IsPlain, Lies, Shoots, is_move, body_after_shooting}
-use Rattle.arena_actions.specs.Lawful.Moves.{stay_on_maps, keep_who_moves, stay_free}
+use Rattle.arena_outcomes.specs.Outcomes.{moved_among, outcome_in, risen, lying, shooting_in, outcome_on}
+use Rattle.arena_outcomes.proofs.OnMaps.{IsMove, IsPlain, Lies, Shoots, is_move, body_after_shooting}
+use Rattle.arena_outcomes.proofs.Lawful.Moves.{stay_on_maps, keep_who_moves, stay_free}
 use Rattle.plain_server.proofs.Scores.{without_score, touched-without_score}
 
 -- a move doesn't look at the score

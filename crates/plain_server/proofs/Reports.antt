@@ -15,7 +15,7 @@ use Rattle.entity_recs.specs.Histories.{Item, entry_of, commands_of}
 use Rattle.move_journal.specs.Merges.{history_of}
 use Rattle.arena_map.specs.Maps.{MapView, IsMap}
 use Rattle.arena_map.specs.Validity.{IsValidWorld}
-use Rattle.arena_actions.proofs.OnMaps.{stay_movers, short_replies}
+use Rattle.arena_outcomes.proofs.OnMaps.{stay_movers, short_replies}
 use Rattle.world_tree.specs.Live.{record_at}
 use Rattle.world_tree.proofs.Links.{id-below}
 use Rattle.client_ports.specs.Receiving.{Receiving}

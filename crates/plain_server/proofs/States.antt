@@ -17,9 +17,9 @@ use Rattle.entity_recs.specs.Histories.{Action, with_new_state}
 use Rattle.entity_recs.proofs.Ids.{thing_id}
 use Rattle.arena_map.specs.Maps.{MapView}
 use Rattle.arena_map.specs.Validity.{IsPlayerState, IsPlayerStateOn, IsStateOn, IsValidWorld}
-use Rattle.arena_actions.specs.Outcomes.{shot_outcome, outcome_on}
-use Rattle.arena_actions.specs.Lawful.Moves.{keep_who_moves}
-use Rattle.arena_actions.proofs.OnMaps.{decide, down_lie, down_rise, follow_moves}
+use Rattle.arena_outcomes.specs.Outcomes.{shot_outcome, outcome_on}
+use Rattle.arena_outcomes.proofs.Lawful.Moves.{keep_who_moves}
+use Rattle.arena_outcomes.proofs.OnMaps.{decide, down_lie, down_rise, follow_moves}
 use Rattle.world_tree.specs.Live.{record_at}
 use Rattle.plain_server.specs.RecordsById.{world_of}
 use Rattle.plain_server.specs.Moving.{HasLivePlayer, effect_among, with_new_states, records_after}

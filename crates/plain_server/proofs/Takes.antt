@@ -20,9 +20,9 @@ use Rattle.trigger_rules.specs.Laws.{IsTaken, AreTaken}
 use Rattle.shot_rules.specs.Shots.{is_fired, after_shot, state_after_hit}
 use Rattle.shot_rules.specs.Laws.{IsShot, Misses, Hits}
 use Rattle.shot_rules.proofs.Hits.{are_in_the_way, unfired_is}
-use Rattle.arena_actions.specs.Outcomes.{moved_among, effect_of, outcome_in, risen, shooting_in}
-use Rattle.arena_actions.specs.Lawful.Moves.{take_what_is_there}
-use Rattle.arena_actions.proofs.OnMaps.{IsMove, IsPlain, Lies, Shoots, is_move}
+use Rattle.arena_outcomes.specs.Outcomes.{moved_among, effect_of, outcome_in, risen, shooting_in}
+use Rattle.arena_outcomes.proofs.Lawful.Moves.{take_what_is_there}
+use Rattle.arena_outcomes.proofs.OnMaps.{IsMove, IsPlain, Lies, Shoots, is_move}
 use Rattle.world_tree.specs.Live.{record_at}
 use Rattle.world_physics.proofs.Valid.{item_state}
 use Rattle.plain_server.specs.RecordsById.{world_of}

@@ -8,7 +8,7 @@ use Rattle.entity_recs.specs.Histories.{world_after}
 use Rattle.move_journal.specs.Merges.{IsInOrder}
 use Rattle.arena_map.specs.Maps.{MapView, IsMap, delay_of}
 use Rattle.arena_map.specs.Validity.{IsValidWorld, IsOpeningWorld, AreClear}
-use Rattle.arena_actions.specs.Outcomes.{outcome_on}
+use Rattle.arena_outcomes.specs.Outcomes.{outcome_on}
 use Rattle.world_tree.specs.Live.{record_at}
 use Rattle.packet_read.specs.declared.arrival.Arrival.{Arrival}
 use Rattle.client_ports.specs.Clients.{client_at, AreClients}

@@ -10,7 +10,7 @@ pub use Rattle.move_journal.specs.Merges
 pub use Rattle.arena_map.specs.Maps
 pub use Rattle.arena_map.specs.Validity
 pub use Rattle.trigger_rules.specs.Touching
-pub use Rattle.arena_actions.specs.Outcomes
+pub use Rattle.arena_outcomes.specs.Outcomes
 pub use Rattle.world_tree.specs.Live
 pub use Rattle.world_physics.specs.Ticks
 pub use Rattle.client_ports.specs.Clients

@@ -10,7 +10,7 @@ use Rattle.entity_recs.specs.Worlds.{World}
 use Rattle.entity_recs.specs.Histories.{outcome, world_after, with_new_state}
 use Rattle.arena_map.specs.Maps.{MapView}
 use Rattle.arena_map.specs.Validity.{IsValidWorld}
-use Rattle.arena_actions.specs.Outcomes.{outcome_on}
+use Rattle.arena_outcomes.specs.Outcomes.{outcome_on}
 use Rattle.world_tree.specs.Live.{record_at}
 use Rattle.plain_server.specs.RecordsById.{world_of, records_in}
 

@@ -6,7 +6,7 @@ use Rattle.entity_recs.specs.declared.rec.Rec.{Rec}
 use Rattle.entity_recs.specs.declared.effect.Entry.{Entry}
 use Rattle.move_journal.specs.Merges.{IsRight}
 use Rattle.arena_map.specs.Maps.{MapView}
-use Rattle.arena_actions.specs.Outcomes.{outcome_on}
+use Rattle.arena_outcomes.specs.Outcomes.{outcome_on}
 use Rattle.client_ports.specs.Lists.{Lists}
 use Rattle.plain_server.specs.RecordsById.{world_of}
 use Rattle.demo_lines.specs.Reads.{DemoReaderView}

@@ -13,7 +13,7 @@ use Rattle.move_journal.specs.Merges.{IsRight, history_of}
 use Rattle.move_journal.proofs.Uniques.{legal_at_first}
 use Rattle.move_journal.proofs.Orders.{legal_from_first}
 use Rattle.arena_map.specs.Maps.{MapView, IsMap}
-use Rattle.arena_actions.specs.Outcomes.{outcome_on}
+use Rattle.arena_outcomes.specs.Outcomes.{outcome_on}
 use Rattle.plain_server.specs.RecordsById.{world_of}
 use Rattle.plain_server.specs.Moving.{HasLivePlayer, HasSmallNumber, records_after, HaveMoved}
 use Rattle.plain_server.proofs.Moves.{moved-none, moved-records}

@@ -11,7 +11,7 @@ use Rattle.entity_recs.specs.Commands.{Command}
 use Rattle.entity_recs.specs.Worlds.{others_of, record_or_nobody}
 use Rattle.arena_map.specs.Maps.{MapView, IsMap}
 use Rattle.arena_map.specs.Validity.{IsValidWorld}
-use Rattle.arena_actions.specs.Outcomes.{outcome_on}
+use Rattle.arena_outcomes.specs.Outcomes.{outcome_on}
 use Rattle.trigger_rules.specs.Laws.{IsPlayerOn}
 use Rattle.world_tree.specs.Live.{record_at, AreEntries}
 use Rattle.world_tree.specs.Worlds.{WorldView, with_record, without_id}

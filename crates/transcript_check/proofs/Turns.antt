@@ -17,7 +17,7 @@ use Rattle.move_journal.proofs.Orders.{IsLegalFrom}
 use Rattle.move_journal.proofs.Uniques.{looked_up_command, front_of_history, first_entry, legal_after}
 use Rattle.arena_map.specs.Maps.{MapView, IsMap}
 use Rattle.arena_map.specs.Validity.{IsValidWorld}
-use Rattle.arena_actions.specs.Outcomes.{outcome_on}
+use Rattle.arena_outcomes.specs.Outcomes.{outcome_on}
 use Rattle.plain_server.specs.RecordsById.{world_of}
 use Rattle.plain_server.specs.Moving.{HasLivePlayer, effect_among, records_after, HaveMoved}
 use Rattle.plain_server.proofs.Moves.{moved-none, moved-more, still-live}

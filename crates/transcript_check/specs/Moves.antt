@@ -10,7 +10,7 @@ use Rattle.edge_io.specs.declared.source.Source as sources
 use Rattle.demo_lines.specs.declared.rest.TheConstants.{LONGEST_REST}
 use Rattle.demo_lines.specs.Reads.{DemoReaderView}
 use Rattle.arena_map.specs.Maps.{MapView}
-use Rattle.arena_actions.specs.Outcomes.{outcome_on}
+use Rattle.arena_outcomes.specs.Outcomes.{outcome_on}
 use Rattle.plain_server.specs.RecordsById.{world_of, records_in}
 use Rattle.plain_server.specs.Moving.{effect_among, records_after}
 use Rattle.out_text.specs.Dids.{did_of}

@@ -5,7 +5,7 @@ ghost use Rattle.std.specs.Bool.{OnTrue, OnFalse};
 ghost use Rattle.entity_recs.specs.Commands.{command_of};
 ghost use Rattle.move_journal.specs.Merges.{IsRight, HasNumbersApart};
 ghost use Rattle.arena_map.specs.Validity.{IsValidWorld};
-ghost use Rattle.arena_actions.specs.Outcomes.{outcome_on};
+ghost use Rattle.arena_outcomes.specs.Outcomes.{outcome_on};
 ghost use Rattle.plain_server.specs.RecordsById.{world_of};
 ghost use Rattle.plain_server.specs.Moving.{HasLivePlayer, HasSmallNumber, records_after};
 ghost use Rattle.demo_lines.specs.declared.stage.Stage.TheVariants.{Ended};

@@ -1,4 +1,5 @@
-ghost use Rattle.arena_actions.specs.MapActions.{map_in, IsOfItsMap, IsOfItsMap-prop};
+ghost use Rattle.arena_actions.specs.MapActions.{map_in, IsOfItsMap};
+ghost use Rattle.arena_actions.proofs.OfItsMap.{IsOfItsMap-prop};
 ghost use Rattle.std.specs.Prelude.{◌≡◌, ◌<◌, [], ◌∷◌, ◌++◌, filter, length, map, Some, IsSome, ◌^◌};
 ghost use Rattle.std.specs.Option.{option_to_list};
 ghost use Rattle.entity_recs.specs.declared.limits.TheConstants.{IDS};

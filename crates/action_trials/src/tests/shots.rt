@@ -2,7 +2,8 @@ ghost use Rattle.std.specs.Prelude.{◌≡◌, ◌<◌, ◌≤◌, [], ◌∷◌
 ghost use Rattle.entity_recs.specs.declared.kind.Kind.TheVariants.{Player};
 ghost use Rattle.entity_recs.specs.Records.{IsRecord};
 ghost use Rattle.arena_map.specs.MapLines.{IsWithinLimits, is_added};
-ghost use Rattle.arena_actions.specs.MapActions.{IsOfItsMap, IsOfItsMap-prop};
+ghost use Rattle.arena_actions.specs.MapActions.{IsOfItsMap};
+ghost use Rattle.arena_actions.proofs.OfItsMap.{IsOfItsMap-prop};
 
 use super::{arena, at, player};
 use arena_actions::MapAction;

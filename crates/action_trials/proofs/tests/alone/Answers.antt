@@ -1,10 +1,10 @@
 use Rattle.std.proofs.Common.{◌≡◌, true, arith}
 use Rattle.std.proofs.lemmas.List.Elements.{All-nil}
 use Rattle.entity_recs.specs.declared.rec.Rec.{Rec}
-use Rattle.arena_actions.specs.Takes.{takes}
-use Rattle.arena_actions.specs.Lawful.Taking.{player_is_taken}
+use Rattle.arena_outcomes.specs.Takes.{takes}
+use Rattle.arena_outcomes.proofs.Lawful.Taking.{player_is_taken}
 use Rattle.action_trials.proofs.tests.alone.Goals as goal
-use Rattle.arena_actions.proofs.OnMaps.{inside_by_test}
+use Rattle.arena_outcomes.proofs.OnMaps.{inside_by_test}
 
 pub alone_by-requires-after_bounds : goal.alone_by-requires-after_bounds
 alone_by-requires-after_bounds c bounds =

@@ -6,7 +6,7 @@ use Rattle.arena_geo.specs.Boxes.{grown}
 use Rattle.entity_recs.specs.declared.rec.Rec.{Rec}
 use Rattle.entity_recs.specs.Bodies.{body_of}
 use Rattle.player_move.specs.Laws.{reach_on, looked_at}
-use Rattle.arena_actions.specs.Lawful.Growing.{amount, body_within, grows_in_range, read-reach}
+use Rattle.arena_outcomes.proofs.Lawful.Growing.{amount, body_within, grows_in_range, read-reach}
 use Rattle.arena_actions.proofs.looking.looked_at.Goals as goal
 
 -- the body, larger by the reach and the stairs, is where the move looks

@@ -1,6 +1,6 @@
 use Rattle.std.proofs.Common.{ap, ◌∙◌}
 use Rattle.player_move.specs.declared.moved.Moved.{Moved}
-use Rattle.arena_actions.specs.Outcomes.{after_move, moved_among}
+use Rattle.arena_outcomes.specs.Outcomes.{after_move, moved_among}
 use Rattle.arena_actions.proofs.Rising.{few_records}
 use Rattle.arena_actions.proofs.moving.moved_player.Goals as goal
 

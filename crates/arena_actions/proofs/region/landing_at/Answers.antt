@@ -1,8 +1,8 @@
 use Rattle.std.proofs.Common.{arith}
 use Rattle.entity_recs.specs.Bodies.{abs_of}
-use Rattle.arena_actions.specs.Regions.{elsewhere}
-use Rattle.arena_actions.specs.Lawful.Growing.{abs_within, grows_in_range}
-use Rattle.arena_actions.specs.Lawful.Players.{elsewhere_is_record}
+use Rattle.arena_outcomes.specs.Regions.{elsewhere}
+use Rattle.arena_outcomes.proofs.Lawful.Growing.{abs_within, grows_in_range}
+use Rattle.arena_outcomes.proofs.Lawful.Players.{elsewhere_is_record}
 use Rattle.arena_actions.proofs.region.landing_at.Goals as goal
 
 pub grown-requires-clause-in_range : goal.grown-requires-clause-in_range

@@ -6,8 +6,8 @@ use Rattle.arena_geo.specs.Boxes.{grown}
 use Rattle.entity_recs.specs.declared.rec.Rec.{Rec}
 use Rattle.entity_recs.specs.Bodies.{abs_of}
 use Rattle.player_move.specs.Laws.{reach_on}
-use Rattle.arena_actions.specs.Regions.{reach_of}
-use Rattle.arena_actions.specs.Lawful.Growing.{amount, abs_within, grows_in_range, read-reach}
+use Rattle.arena_outcomes.specs.Regions.{reach_of}
+use Rattle.arena_outcomes.proofs.Lawful.Growing.{amount, abs_within, grows_in_range, read-reach}
 use Rattle.arena_actions.proofs.region.reach_of.Goals as goal
 
 -- the absolute box, larger by what the move goes and what there is to spare, is the reach

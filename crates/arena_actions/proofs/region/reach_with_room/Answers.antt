@@ -1,6 +1,6 @@
 use Rattle.std.proofs.Common.{arith}
-use Rattle.arena_actions.specs.Regions.{reach_of}
-use Rattle.arena_actions.specs.Lawful.Growing.{reach_within, grows_in_range}
+use Rattle.arena_outcomes.specs.Regions.{reach_of}
+use Rattle.arena_outcomes.proofs.Lawful.Growing.{reach_within, grows_in_range}
 use Rattle.arena_actions.proofs.region.reach_with_room.Goals as goal
 
 pub grown-requires-clause-in_range : goal.grown-requires-clause-in_range

@@ -3,9 +3,9 @@ use Rattle.std.specs.Prelude.{filter_map}
 use Rattle.arena_geo.specs.Bounds.{Bounds}
 use Rattle.arena_map.specs.Maps.{entities_of}
 use Rattle.arena_actions.specs.declared.leaps.Leap.{Leap}
-use Rattle.arena_actions.specs.Regions.{first_box, landing_of, region_with}
+use Rattle.arena_outcomes.specs.Regions.{first_box, landing_of, region_with}
 use Rattle.arena_actions.specs.Leaps.{landing_by}
-use Rattle.arena_actions.specs.Lawful.Landings.{room_for_landing, landing_put, all_landings, landings_by}
+use Rattle.arena_actions.proofs.Leaping.{room_for_landing, landing_put, all_landings, landings_by}
 use Rattle.arena_actions.proofs.region.region_of.Goals as goal
 
 pub push_landing-requires : goal.push_landing-requires

@@ -1,6 +1,6 @@
 use Rattle.std.proofs.Common.{◌≡◌, ◌∷◌, take}
 use Rattle.std.specs.Prelude.{filter_map}
-use Rattle.arena_actions.specs.Regions.{first_box}
+use Rattle.arena_outcomes.specs.Regions.{first_box}
 use Rattle.arena_actions.specs.Leaps.{landing_by}
 use Rattle.arena_actions.proofs.region.region_of.Given as goal
 

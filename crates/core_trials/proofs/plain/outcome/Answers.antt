@@ -4,7 +4,7 @@ use Rattle.std.specs.List.{list_all}
 use Rattle.std.specs.List.Sorted.{IsStrictlyIncreasing}
 use Rattle.std.proofs.lemmas.Bool.{not-true}
 use Rattle.entity_recs.specs.declared.rec.Rec.{Rec}
-use Rattle.core_trials.specs.Errand.{takes}
+use Rattle.trial_outcomes.specs.Errand.{takes}
 use Rattle.core_trials.proofs.Calls.{all_hold}
 use Rattle.core_trials.proofs.plain.outcome.Goals as goal
 

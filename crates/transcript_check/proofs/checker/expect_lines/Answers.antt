@@ -1,5 +1,6 @@
 use Rattle.std.proofs.Common.{◌∙◌}
-use Rattle.arena_actions.specs.MapActions.{map_in, keeps_rules}
+use Rattle.arena_actions.specs.MapActions.{map_in}
+use Rattle.arena_actions.proofs.OfItsMap.{keeps_rules}
 use Rattle.transcript_check.proofs.Texts.{ok_false-weaker, ok_true-both}
 use Rattle.transcript_check.proofs.Frames.{head-missed, moves-missed, replies-missed, frame-read, head-looked, moves-looked, replies-looked}
 use Rattle.transcript_check.proofs.Turns.{ready-first}

@@ -1,6 +1,7 @@
 use Rattle.std.proofs.Common.{◌≢◌, [], false, IsTrue, Err, refl, ap, ◌∙◌}
 use Rattle.std.proofs.lemmas.Result.{err_from_is_err_and}
-use Rattle.arena_actions.specs.MapActions.{map_in, keeps_rules}
+use Rattle.arena_actions.specs.MapActions.{map_in}
+use Rattle.arena_actions.proofs.OfItsMap.{keeps_rules}
 use Rattle.transcript_check.proofs.ReadingOn.{fails-after}
 use Rattle.transcript_check.proofs.Turns.{ready-first}
 use Rattle.transcript_check.proofs.MovesRead.{so-far-first, so-far-next, so-far-missed, so-far-looked, so-far-done}

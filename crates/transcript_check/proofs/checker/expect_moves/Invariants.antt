@@ -1,5 +1,6 @@
 use Rattle.std.proofs.Common.{◌≡◌, length}
-use Rattle.arena_actions.specs.MapActions.{map_in, keeps_rules}
+use Rattle.arena_actions.specs.MapActions.{map_in}
+use Rattle.arena_actions.proofs.OfItsMap.{keeps_rules}
 use Rattle.transcript_check.proofs.MovesRead.{MovesSoFar}
 use Rattle.transcript_check.proofs.checker.expect_moves.Given as goal
 

@@ -3,9 +3,9 @@ use Rattle.entity_recs.specs.declared.rec.Rec.{Rec}
 use Rattle.entity_recs.specs.Commands.{Command, command_of}
 use Rattle.arena_map.specs.Maps.{MapView, IsMap}
 use Rattle.trigger_rules.specs.Laws.{IsPlayerOn}
-use Rattle.arena_actions.specs.Outcomes.{moved_among}
+use Rattle.arena_outcomes.specs.Outcomes.{moved_among}
 use Rattle.arena_actions.proofs.Effects.{effect_by_parts}
-use Rattle.arena_actions.specs.Lawful.Players.{moved_stays_on}
+use Rattle.arena_outcomes.proofs.Lawful.Players.{moved_stays_on}
 use Rattle.arena_actions.proofs.arena_action.ArenaAction.act.Goals as goal
 
 -- the player after its move is on the map

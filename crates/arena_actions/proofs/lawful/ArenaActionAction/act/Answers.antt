@@ -3,9 +3,9 @@ use Rattle.std.proofs.lemmas.List.Elements.{All-weaker}
 use Rattle.entity_recs.specs.declared.rec.Rec.{Rec}
 use Rattle.entity_recs.specs.Records.{IsRecord}
 use Rattle.entity_recs.specs.Commands.{command_of}
-use Rattle.arena_actions.specs.Takes.{takes}
-use Rattle.arena_actions.specs.Lawful.Taking.{taken_is_record}
-use Rattle.arena_actions.specs.Lawful.Valid.{has_player_on}
+use Rattle.arena_outcomes.specs.Takes.{takes}
+use Rattle.arena_outcomes.proofs.Lawful.Taking.{taken_is_record}
+use Rattle.arena_outcomes.proofs.Lawful.Valid.{has_player_on}
 use Rattle.arena_actions.proofs.lawful.ArenaActionAction.act.Goals as goal
 
 pub act-requires-clause-player : goal.act-requires-clause-player

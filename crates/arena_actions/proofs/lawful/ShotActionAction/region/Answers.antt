@@ -1,5 +1,5 @@
 use Rattle.entity_recs.specs.Commands.{command_of}
-use Rattle.arena_actions.specs.Lawful.Valid.{has_player_on}
+use Rattle.arena_outcomes.proofs.Lawful.Valid.{has_player_on}
 use Rattle.arena_actions.proofs.lawful.ShotActionAction.region.Goals as goal
 
 pub region_of-requires-clause-player : goal.region_of-requires-clause-player

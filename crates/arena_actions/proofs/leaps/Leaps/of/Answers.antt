@@ -1,5 +1,5 @@
 use Rattle.arena_actions.specs.Leaps.{leap_of}
-use Rattle.arena_actions.specs.Lawful.Landings.{room_for_leap, leap_put}
+use Rattle.arena_actions.proofs.Leaping.{room_for_leap, leap_put}
 use Rattle.arena_actions.proofs.leaps.Leaps.of.Goals as goal
 
 pub push-requires-clause-room : goal.push-requires-clause-room

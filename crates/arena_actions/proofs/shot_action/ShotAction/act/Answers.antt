@@ -2,8 +2,8 @@ use Rattle.std.proofs.Common.{◌∙◌, sym, ap}
 use Rattle.entity_recs.specs.declared.rec.Rec.{Rec}
 use Rattle.entity_recs.specs.Commands.{command_of}
 use Rattle.trigger_rules.specs.Touching.{first_walk}
-use Rattle.arena_actions.specs.Outcomes.{effect_of, shooting_in}
-use Rattle.arena_actions.proofs.Shooting.{down_is, moves_is}
+use Rattle.arena_outcomes.specs.Outcomes.{effect_of, shooting_in}
+use Rattle.arena_outcomes.proofs.LyingOrMoving.{down_is, moves_is}
 use Rattle.arena_actions.proofs.shot_action.ShotAction.act.Goals as goal
 
 pub returns-then-is_down : goal.returns-then-is_down

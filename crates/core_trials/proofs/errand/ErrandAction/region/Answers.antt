@@ -1,7 +1,7 @@
 use Rattle.std.proofs.Common.{refl, subst, sym}
 use Rattle.entity_recs.specs.Records.{IsRecord}
-use Rattle.core_trials.specs.Keeping.{keepable}
-use Rattle.core_trials.specs.Lawful.{arrived_is_record}
+use Rattle.trial_outcomes.proofs.ErrandRecords.{keepable}
+use Rattle.trial_outcomes.proofs.ErrandLaws.{arrived_is_record}
 use Rattle.core_trials.proofs.errand.ErrandAction.region.Goals as goal
 
 pub abs_box-requires : goal.abs_box-requires

@@ -1,5 +1,5 @@
 use Rattle.std.proofs.Common.{refl}
-use Rattle.core_seats.specs.Staying.{keepable}
+use Rattle.trial_outcomes.proofs.StayingLaws.{keepable}
 use Rattle.core_trials.proofs.staying.StayingAction.region.Goals as goal
 
 pub abs_box-requires : goal.abs_box-requires

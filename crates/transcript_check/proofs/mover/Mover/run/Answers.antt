@@ -1,6 +1,7 @@
 use Rattle.std.proofs.Common.{ap, ◌∙◌}
 use Rattle.entity_recs.specs.Commands.{command_of}
-use Rattle.arena_actions.specs.MapActions.{map_in, keeps_rules}
+use Rattle.arena_actions.specs.MapActions.{map_in}
+use Rattle.arena_actions.proofs.OfItsMap.{keeps_rules}
 use Rattle.plain_server.specs.Moving.{with_new_states}
 use Rattle.plain_server.proofs.Players.{live_record}
 use Rattle.transcript_check.proofs.Moving.{after-move, still-there, records-are}

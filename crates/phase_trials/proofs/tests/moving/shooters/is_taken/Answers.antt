@@ -1,6 +1,6 @@
 use Rattle.std.proofs.Common.{arith}
 use Rattle.arena_actions.specs.MapActions.{map_in}
-use Rattle.arena_actions.proofs.OnMaps.{inside_by_test}
+use Rattle.arena_outcomes.proofs.OnMaps.{inside_by_test}
 use Rattle.phase_trials.proofs.TakenPlayers.{player_taken}
 use Rattle.phase_trials.proofs.tests.moving.shooters.is_taken.Goals as goal
 

@@ -1,5 +1,0 @@
-use Rattle.arena_actions.proofs.Flags.{flags_are_known}
-use Rattle.arena_actions.proofs.laws.flags_are_known.Goals as goal
-
-pub returns : goal.returns
-returns c = flags_are_known

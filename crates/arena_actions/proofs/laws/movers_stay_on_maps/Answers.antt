@@ -1,5 +1,0 @@
-use Rattle.arena_actions.proofs.OnMaps.{movers_stay_on}
-use Rattle.arena_actions.proofs.laws.movers_stay_on_maps.Goals as goal
-
-pub returns : goal.returns
-returns c = movers_stay_on

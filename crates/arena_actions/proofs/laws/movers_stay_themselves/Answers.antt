@@ -1,5 +1,0 @@
-use Rattle.arena_actions.proofs.OnMaps.{stay_movers}
-use Rattle.arena_actions.proofs.laws.movers_stay_themselves.Goals as goal
-
-pub returns : goal.returns
-returns c = stay_movers

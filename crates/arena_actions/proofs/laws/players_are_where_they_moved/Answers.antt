@@ -1,5 +1,0 @@
-use Rattle.arena_actions.specs.Lawful.Moves.{are_where_they_moved}
-use Rattle.arena_actions.proofs.laws.players_are_where_they_moved.Goals as goal
-
-pub returns : goal.returns
-returns c = are_where_they_moved

@@ -1,5 +1,0 @@
-use Rattle.arena_actions.proofs.Nearness.{regions_are_near}
-use Rattle.arena_actions.proofs.laws.regions_are_near.Goals as goal
-
-pub returns : goal.returns
-returns c = regions_are_near

@@ -1,5 +1,0 @@
-use Rattle.arena_actions.proofs.OnMaps.{short_replies}
-use Rattle.arena_actions.proofs.laws.replies_are_short.Goals as goal
-
-pub returns : goal.returns
-returns c = short_replies

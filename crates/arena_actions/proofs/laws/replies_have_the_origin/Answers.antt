@@ -1,5 +1,0 @@
-use Rattle.arena_actions.specs.Lawful.Moves.{replies_have_origin}
-use Rattle.arena_actions.proofs.laws.replies_have_the_origin.Goals as goal
-
-pub returns : goal.returns
-returns c = replies_have_origin

@@ -1,5 +1,0 @@
-use Rattle.arena_actions.proofs.OnMaps.{follow_moves}
-use Rattle.arena_actions.proofs.laws.shots_follow_moves.Goals as goal
-
-pub returns : goal.returns
-returns c = follow_moves

@@ -1,5 +1,0 @@
-use Rattle.arena_actions.specs.Lawful.Moves.{follows_moves}
-use Rattle.arena_actions.proofs.laws.touching_follows_moves.Goals as goal
-
-pub returns : goal.returns
-returns c = follows_moves

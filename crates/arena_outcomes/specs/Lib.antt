@@ -1,0 +1,21 @@
+-- What a command does in an arena, and the region outside of which it reads and writes nothing.
+pub use Rattle.arena_geo.specs.Vectors
+pub use Rattle.arena_geo.specs.Bounds
+pub use Rattle.arena_geo.specs.Boxes
+pub use Rattle.entity_recs.specs.Records
+pub use Rattle.entity_recs.specs.Bodies
+pub use Rattle.entity_recs.specs.Commands
+pub use Rattle.entity_recs.specs.Histories
+pub use Rattle.entity_recs.specs.Actions
+pub use Rattle.arena_map.specs.Maps
+pub use Rattle.trigger_rules.specs.Touching
+pub use Rattle.shot_rules.specs.Targets
+pub use Rattle.shot_rules.specs.Shots
+pub mod Outcomes
+pub mod Regions
+pub mod Takes
+pub mod Meanings
+pub mod Worlds
+pub mod Laws
+pub mod ShotLaws
+pub mod Flags
