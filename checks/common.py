@@ -10,7 +10,10 @@ TOP = os.path.dirname(CHECKS)
 EXAMPLES = os.path.join(TOP, "examples")
 TOOLS = os.path.join(TOP, "tools")
 sys.path.insert(0, TOOLS)
-from program import PROGRAM, SECONDS, at_most_numbers, begin, files, folders, lacking, misused, no_words, perform, run  # noqa: E402,F401
+from arena import FormatError  # noqa: E402,F401
+from program import (  # noqa: E402,F401
+    PROGRAM, SECONDS, at_most_numbers, begin, files, folders, lacking, misused, no_words, perform, run, shown,
+)
 
 
 def script(folder, name):

@@ -138,11 +138,11 @@ def opened(path: str, any_encoding: bool = False) -> Iterator[BinaryIO]:
         yield file
 
 
-def read_bytes(path: str, any_encoding: bool = False) -> bytes:
-    """All bytes of a file, as `opened` gives them."""
+def read_bytes(path: str, any_encoding: bool = False, most: int = -1) -> bytes:
+    """All bytes of a file, as `opened` gives them, or so many of them at most."""
     with opened(path, any_encoding) as file:
         try:
-            return file.read()
+            return file.read(most)
         except _READING as error:
             raise FormatError(f"{path} {_cause(error)}") from None
 

@@ -1,6 +1,4 @@
-"""Which rule of a map a line breaks, and by which of its numbers. docs/FORMATS.md has the rules."""
-import copy
-
+"""Which rule of a map a line breaks, and by which two things. docs/FORMATS.md has the rules."""
 import arena
 
 LEAST_SIDE = 32768
@@ -14,7 +12,7 @@ def side(bounds):
         length = bounds[axis + 3] - bounds[axis]
         if length < LEAST_SIDE:
             reach = f"on {AXES[axis]} the arena reaches from {bounds[axis]} to {bounds[axis + 3]}"
-            return f"{reach}, which is {length} long"
+            return f"{reach}, which is {length} long, and {LEAST_SIDE} is the least"
     return None
 
 
@@ -22,7 +20,7 @@ def flat(box):
     """The first half of rule 2."""
     for axis in range(3):
         if box[axis] >= box[axis + 3]:
-            return f"{AXES[axis]}0 is {box[axis]} and {AXES[axis]}1 is {box[axis + 3]}"
+            return f"{AXES[axis]}0 is {box[axis]} and {AXES[axis]}1 is {box[axis + 3]}, and {AXES[axis]}0 is to be below"
     return None
 
 
@@ -49,8 +47,29 @@ def shaft(lift):
     return (*lift.box[:5], lift.box[5] + lift.rise)
 
 
-def shafts(found):
-    return [shaft(thing) for thing in found.things if thing.kind == "lift"]
+def span(box):
+    return f"from {tuple(box[:3])} to {tuple(box[3:])}"
+
+
+def line_of(lines, word, place):
+    """The number of a line, of those that begin with this word the one at this place, from 0."""
+    return [number for number, line in enumerate(lines, 1) if line.split(b" ")[0] == word][place]
+
+
+def shafts(found, lines):
+    """The shafts of the lifts, each with what gives its name."""
+    lifts = [thing for thing in found.things if thing.kind == "lift"]
+    for place, thing in enumerate(lifts):
+        number = thing.id
+        yield shaft(thing), lambda number=number, place=place: (
+            f"the shaft of lift {number}, of line {line_of(lines, b'lift', place)},"
+        )
+
+
+def blocks(found, lines):
+    """The blocks, each with what gives its name."""
+    for place, block in enumerate(found.blocks):
+        yield block, lambda place=place: f"the block of line {line_of(lines, b'block', place)}"
 
 
 def count_of(found, word):
@@ -63,40 +82,71 @@ def count_of(found, word):
     return sum(thing.kind in kinds for thing in found.things)
 
 
-def broken_by(before, line):
+def overlapped(box, name, others):
+    """Those of these that a box overlaps, in words."""
+    for other, other_name in others:
+        if overlap(box, other):
+            yield 8, f"{name} reaches {span(box)}, and overlaps {other_name()} {span(other)}"
+
+
+def broken_by(before, lines, line):
     """The tests of a line that follows these lines of a map, by rising rule: the rule, and why it is broken or None."""
-    found = copy.deepcopy(before)
-    found.take(line)
-    word, bounds = line.split(b" ")[0].decode(), found.bounds
+    own = arena.Map(before.bounds)
+    own.take(line)
+    word, bounds = line.split(b" ")[0].decode(), own.bounds
     if word == "arena":
         yield 1, side(bounds)
         return
     if word not in MOST:
         return
-    box = found.blocks[-1] if word == "block" else None if word == "spawn" else found.things[-1].box
+    box = own.blocks[0] if word == "block" else None if word == "spawn" else own.things[0].box
+    number = arena.FIRST_THING + len(before.things)
     if word not in ("spawn", "item"):
         yield 2, flat(box) or outside(box, bounds, f"the {word}")
-    if count_of(found, word) > MOST[word]:
-        yield 3, f"a map has at most {MOST[word]:,} of these lines"
+    count = count_of(before, word) + 1
+    if count > MOST[word]:
+        yield 3, f"it is the {count:,}th of these lines, and a map has at most {MOST[word]:,}"
     if word == "spawn":
-        yield 4, body_at(found.spawns[-1], bounds, "spawn")
+        yield 4, body_at(own.spawns[0], bounds, "spawn")
     if word == "teleport":
-        yield 4, body_at(found.things[-1].destination, bounds, "destination")
+        yield 4, body_at(own.things[0].destination, bounds, "destination")
     if word == "item":
-        yield 5, outside(box, bounds, "the body of the item")
+        yield 5, outside(box, bounds, f"the body of the item, {number},")
     if word == "lift":
-        yield 6, outside(shaft(found.things[-1]), bounds, "the lift with its rise")
-        for other in found.blocks + shafts(before):
-            if overlap(shaft(found.things[-1]), other):
-                yield 8, f"its shaft is {shaft(found.things[-1])}, and overlaps {other}"
+        own_shaft, name = shaft(own.things[0]), f"the shaft of this lift, {number},"
+        yield 6, outside(own_shaft, bounds, f"the lift, {number}, with its rise")
+        yield from overlapped(own_shaft, name, blocks(before, lines))
+        yield from overlapped(own_shaft, name, shafts(before, lines))
     if word == "block":
-        for other in shafts(before):
-            if overlap(box, other):
-                yield 8, f"it overlaps the shaft {other}"
+        yield from overlapped(box, "this block", shafts(before, lines))
 
 
-def broken_rule(before, line):
-    """The first rule that a line breaks after these lines of a map, and why; None where none is known to be broken."""
-    if line == b"frame":
-        return (7, "the map has no spawn") if not before.spawns else None
-    return next(((rule, why) for rule, why in broken_by(before, line) if why), None)
+def broken_rule(before, lines, line):
+    """The first rule that a line breaks after these lines, of this map, and why; None where none is known to be broken."""
+    if line == b"frame" and before.bounds:
+        return (7, "this is the first frame, and no line before it is a spawn") if not before.spawns else None
+    return next(((rule, why) for rule, why in broken_by(before, lines, line) if why), None)
+
+
+class Watch:
+    """The lines of a map as they come, until one breaks a rule or is none of a map."""
+
+    MOST_LINES = 4_000
+
+    def __init__(self):
+        self.map, self.lines, self.is_over = arena.Map(), [], False
+
+    def broken(self, line):
+        """The rule that this line breaks, and why; None where it is right, or nothing is known any more."""
+        if self.is_over:
+            return None
+        try:
+            found = broken_rule(self.map, self.lines, line)
+            self.is_over = found is not None or line in (b"frame", b"end") or len(self.lines) > self.MOST_LINES
+            if not self.is_over:
+                self.map.take(line)
+                self.lines.append(line)
+            return found
+        except ValueError:
+            self.is_over = True
+            return None

@@ -32,12 +32,7 @@ class Pictures(Calls):
 
     def test_labels_are_apart_and_within_the_page(self):
         for name, output in [(name, name + ".out") for name in self.names()] + [("ways", "ways-to-10.out")]:
-            drawn = self.picture(name, output)
-            _, _, width, height = map(float, drawn.get("viewBox").split())
-            rooms = [room_of(text) for text in drawn.iter(SVG + "text")]
-            for place, room in enumerate(rooms):
-                self.assertTrue(room[0] >= 0 and room[1] >= 0 and room[2] <= width and room[3] <= height, (name, room))
-                self.assertFalse(any(meet(room, other) for other in rooms[:place]), (name, room))
+            self.labels_are_apart(self.picture(name, output), name)
 
     def test_hits(self):
         drawn = self.picture("duel", "duel.out")
@@ -51,6 +46,46 @@ class Pictures(Calls):
     def test_heights(self):
         texts = [text.text for text in self.picture("lift", "lift.out").iter(SVG + "text")]
         self.assertIn("height of each player's origin, in units, over the frames", texts)
+
+    def labels_are_apart(self, drawn, name):
+        _, _, width, height = map(float, drawn.get("viewBox").split())
+        rooms = [room_of(text) for text in drawn.iter(SVG + "text")]
+        for place, room in enumerate(rooms):
+            self.assertTrue(room[0] >= 0 and room[1] >= 0 and room[2] <= width and room[3] <= height, (name, room))
+            self.assertFalse(any(meet(room, other) for other in rooms[:place]), (name, room))
+
+    def cut(self, *words):
+        drawn = tree.fromstring(self.call("picture", *words, status=0)[0])
+        self.labels_are_apart(drawn, words)
+        parts = {part.find(SVG + "title").text: part for part in drawn.iter() if part.find(SVG + "title") is not None}
+        return parts, [text.text for text in drawn.iter(SVG + "text")]
+
+    def test_a_height(self):
+        """Two rooms above each other: at each height its own walls, floors, things and spawn alone."""
+        lines = ["arena -65536 -65536 0 65536 65536 65536", "block -65536 -65536 30000 65536 65536 32768"]
+        lines += ["block 0 0 0 256 65536 30000", "block 0 -65536 32768 256 0 65536"]
+        lines += ["spawn 20000 20000 6144", "spawn -20000 20000 38912", "item 9000 9000 0 gem 5"]
+        lines += ["item 9000 9000 32768 ammo 5", "lift 30000 30000 0 40000 40000 2000 20000 100", "end"]
+        path = self.path("rooms.demo", "\n".join(lines).encode())
+        low, texts = self.cut(path, "--height", "24")
+        self.assertEqual({"gem 64", "lift 66", "blocks at this height"}, set(low))
+        self.assertIn("rooms, cut at height 24: 1 of 3 blocks", texts)
+        high, texts = self.cut("--height", "150", path)
+        self.assertEqual({"ammo 65", "at most 64 units below", "more than 128", "blocks at this height"} & set(high), {
+            "ammo 65", "at most 64 units below", "blocks at this height"})
+        self.assertNotIn("lift 66", high)
+        self.assertEqual(self.cut(path, "--height", "117.5")[1][0], "rooms, cut at height 117.5: 1 of 3 blocks")
+        for word in ("256", "-1"):
+            self.assertIn(b"reaches from 0 up to 256", self.call("picture", path, "--height", word, status=1)[1])
+        for words in ([path], [path, "--height"], [path, "--height", "x"], [path, "--height", "1", "2", "3"], ["--height", "1"]):
+            self.call("picture", *words, status=2)
+
+    def test_ways_and_long_names_at_a_height(self):
+        for name in ("duel", "lift", "tour", "stairs"):
+            self.cut(example(name + ".demo"), example(name + ".out"), "--height", "24")
+        self.cut(example("ways.demo"), example("ways-to-10.out"), "--height", "24")
+        narrow = "arena 0 0 0 32768 1048576 65536\nspawn 9000 9000 6144\n" + "item 9 9000 0 gem 5\n" * 60 + "end\n"
+        self.cut(self.path("n" * 150 + "\x1b.demo", narrow.encode()), "--height", "24")
 
     def test_files(self):
         demo = self.path("duel.demo", gzip.compress(content("duel.demo")))

@@ -30,7 +30,7 @@ class Pages(Calls):
     def test_each_example_is_shown(self):
         for name in sorted(os.listdir(EXAMPLES)):
             output = name[:-5] + ".out"
-            if not name.endswith(".demo") or name.startswith(("map-rule", "refused", "unfinished", "ways", "no-frame")):
+            if not name.endswith(".demo") or name.startswith(("refused", "unfinished")) or b"frame " not in content(output):
                 continue
             page, error, _ = self.call("replay", example(name), example(output), status=0)
             self.assertEqual((error, head_of(page)["frames"]), (b"", content(output).count(b"frame ")))

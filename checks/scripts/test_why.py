@@ -10,33 +10,40 @@ from common import PROGRAM
 
 MAP = "arena -65536 -65536 0 65536 65536 65536\nspawn 0 0 6144\n"
 LIFT = "lift 20000 20000 0 30000 30000 2000 9000 100\n"
-# A last line of a map, and the rule that it breaks.
+HIGH = "block 25000 25000 10999 26000 26000 12000\n"
+SHAFT_SPAN, HIGH_SPAN = "from (20000, 20000, 0) to (30000, 30000, 11000)", "from (25000, 25000, 10999) to (26000, 26000, 12000)"
+# A last line of a map, the rule that it breaks, and the two things by which.
 BROKEN = [
-    ("arena 0 0 0 32767 40000 40000\n", 1),
-    (MAP + "block 5 0 0 5 10 10\n", 2),
-    (MAP + "goal 0 0 0 10 10 65537\n", 2),
-    (MAP + "block 0 0 0 9 9 9\n" * 1025, 3),
-    (MAP + "spawn 0 0 6144\n" * 64, 3),
-    (MAP + "item 0 0 0 gem 5\n" * 401, 3),
-    (MAP + "spawn 61441 0 6144\n", 4),
-    (MAP + "teleport 0 0 0 9 9 9 0 0 0\n", 4),
-    (MAP + "item 57345 0 0 gem 5\n", 5),
-    (MAP + "lift 0 0 0 9 9 9 1048576 1\n", 6),
-    (MAP.split("spawn")[0] + "frame\n", 7),
-    (MAP + LIFT + LIFT, 8),
-    (MAP + LIFT + "block 25000 25000 10999 26000 26000 12000\n", 8),
-    (MAP + "block 25000 25000 10999 26000 26000 12000\n" + LIFT, 8),
+    ("arena 0 0 0 32767 40000 40000\n", 1, "on x the arena reaches from 0 to 32767, which is 32767 long, and 32768 is the least"),
+    (MAP + "block 5 0 0 5 10 10\n", 2, "x0 is 5 and x1 is 5, and x0 is to be below"),
+    (MAP + "goal 0 0 0 10 10 65537\n", 2, "on z the goal reaches from 0 to 65537, and the arena from 0 to 65536"),
+    (MAP + "teleport 0 0 -1 9 9 9 0 0 6144\n", 2, "on z the teleport reaches from -1 to 9, and the arena from 0 to 65536"),
+    (MAP + "block 0 0 0 9 9 9\n" * 1025, 3, "it is the 1,025th of these lines, and a map has at most 1,024"),
+    (MAP + "spawn 0 0 6144\n" * 64, 3, "it is the 65th of these lines, and a map has at most 64"),
+    (MAP + "item 0 0 0 gem 5\n" * 401, 3, "it is the 401th of these lines, and a map has at most 400"),
+    (MAP + "spawn 61441 0 6144\n", 4, "on x the body of a player at the spawn reaches from 57345 to 65537, and the arena from"),
+    (MAP + "teleport 0 0 0 9 9 9 0 0 0\n", 4, "on z the body of a player at the destination reaches from -6144 to 8192, and the"),
+    (MAP + LIFT + "item 57345 0 0 gem 5\n", 5, "on x the body of the item, 65, reaches from 57345 to 65537, and the arena from"),
+    (MAP + "lift 0 0 0 9 9 9 1048576 1\n", 6, "on z the lift, 64, with its rise reaches from 0 to 1048585, and the arena from 0"),
+    (MAP.split("spawn")[0] + "frame\n", 7, "this is the first frame, and no line before it is a spawn"),
+    (MAP + LIFT + LIFT, 8, f"the shaft of this lift, 65, reaches {SHAFT_SPAN}, and overlaps the shaft of lift 64, of line 3, {SHAFT_SPAN}"),
+    (MAP + LIFT + HIGH, 8, f"this block reaches {HIGH_SPAN}, and overlaps the shaft of lift 64, of line 3, {SHAFT_SPAN}"),
+    (MAP + "block 0 0 0 9 9 9\n" + HIGH + LIFT, 8, f"lift, 64, reaches {SHAFT_SPAN}, and overlaps the block of line 4 {HIGH_SPAN}"),
 ]
 
 
 class Recordings(Calls):
     def test_each_rule_is_named(self):
-        for text, rule in BROKEN:
+        for text, rule, things in BROKEN:
             path = self.path("broken.demo", (text + "end\n").encode())
             out, _, _ = self.call("why", path, status=1)
             self.assertIn(b"line %d is refused" % text.count("\n"), out, text[-80:])
             self.assertIn(b"\nrule %d is broken: " % rule, out, text[-80:])
-            self.assertIn(b"\nhere ", out)
+            here = next(line for line in out.decode().splitlines() if line.startswith("here "))
+            self.assertIn(things, here)
+            out, _, _ = self.call("explain", path, status=0)
+            said = [line for line in out.decode().splitlines() if line.startswith("    ")]
+            self.assertEqual(said, [f"    breaks rule {rule} of the map: {here[5:]}"], text[-80:])
 
     def test_a_cut_file(self):
         for data in (content("duel.demo")[:300], content("duel.demo")[:-4], b""):

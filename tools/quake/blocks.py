@@ -2,7 +2,7 @@
 from dataclasses import dataclass
 
 from .cells import Cover, Grid, bits, flooded, grown, is_met, put_box, put_points, put_slanted
-from .source import PLAYER_CLIP, SOLID, Brush, Point, Source, filled_share
+from .source import PLAYER_CLIP, SOLID, Brush, Point, Source, fills
 
 UNIT = 256
 MOST_COORDINATE = 1_048_576
@@ -40,6 +40,9 @@ class Reach:
 
     grid: Grid
     rows: list[int]
+    # What is slanted or curved, and what is a box, of what stands in the way.
+    slanted: list[int]
+    boxed: list[int]
 
     def box(self) -> tuple[Point, Point]:
         across = self.grid.count[1]
@@ -58,7 +61,7 @@ def solids_of(source: Source, others: list[Brush]) -> Solids:
     for brush in source.models[0].brushes + others:
         if not brush.contents & (SOLID | PLAYER_CLIP):
             continue
-        if brush.is_box or filled_share(brush) >= BOX_SHARE:
+        if fills(brush, BOX_SHARE):
             boxes.append((brush.lo, brush.hi))
         else:
             slanted.append(brush)
@@ -74,21 +77,17 @@ def bounds(solids: Solids, seeds: list[Point]) -> tuple[Point, Point]:
     return lo, hi
 
 
-def rows_of(grid: Grid, solids: Solids, with_boxes: bool = True) -> list[int]:
-    rows = grid.rows()
-    for brush in solids.slanted:
-        put_slanted(grid, rows, brush)
-    for points in solids.curves:
-        put_points(grid, rows, points)
-    if with_boxes:
-        for lo, hi in solids.boxes:
-            put_box(grid, rows, lo, hi)
-    return rows
-
-
 def reach_of(solids: Solids, seeds: list[Point], size: Point = FINE) -> Reach:
     grid = Grid.around(*bounds(solids, seeds), size)
-    return Reach(grid, flooded(grid, rows_of(grid, solids), [grid.cell(at) for at in seeds]))
+    slanted, boxed = grid.rows(), grid.rows()
+    for brush in solids.slanted:
+        put_slanted(grid, slanted, brush)
+    for points in solids.curves:
+        put_points(grid, slanted, points)
+    for lo, hi in solids.boxes:
+        put_box(grid, boxed, lo, hi)
+    solid = [one | other for one, other in zip(slanted, boxed)]
+    return Reach(grid, flooded(grid, solid, [grid.cell(at) for at in seeds]), slanted, boxed)
 
 
 def shift_to_the_middle(arena: Box) -> Point | None:
@@ -122,7 +121,8 @@ def arena_of(reach: Reach) -> Box:
 
 
 def is_within(box: Box, other: Box) -> bool:
-    return all(other[i] <= box[i] and box[i + 3] <= other[i + 3] for i in range(3))
+    x0, y0, z0, x1, y1, z1 = box
+    return other[0] <= x0 and x1 <= other[3] and other[1] <= y0 and y1 <= other[4] and other[2] <= z0 and z1 <= other[5]
 
 
 def clipped(box: Box, arena: Box) -> Box | None:
@@ -166,7 +166,11 @@ def without_contained(boxes: list[Box]) -> list[Box]:
     by_size = sorted(set(boxes), key=lambda b: -(b[3] - b[0]) * (b[4] - b[1]) * (b[5] - b[2]))
     found: list[Box] = []
     for box in by_size:
-        if not any(is_within(box, other) for other in found):
+        x0, y0, z0, x1, y1, z1 = box
+        for a0, b0, c0, a1, b1, c1 in found:
+            if a0 <= x0 and x1 <= a1 and b0 <= y0 and y1 <= b1 and c0 <= z0 and z1 <= c1:
+                break
+        else:
             found.append(box)
     return found
 
@@ -179,12 +183,7 @@ def exact_blocks(solids: Solids, reach: Reach, arena: Box, limit: int) -> list[B
     boxes = joined(without_contained(boxes))
     if len(boxes) > limit:
         return None
-    rows = rows_of(reach.grid, solids, with_boxes=False)
-    wanted = [row & close for row, close in zip(rows, near)]
-    exact = reach.grid.rows()
-    for lo, hi in solids.boxes:
-        put_box(reach.grid, exact, lo, hi)
-    wanted = [row & ~has for row, has in zip(wanted, exact)]
+    wanted = [row & close & ~has for row, close, has in zip(reach.slanted, near, reach.boxed)]
     around = grown(reach.grid, grown(reach.grid, wanted))
     allowed = [close & ~row for close, row in zip(around, reach.rows)]
     cells = Cover(reach.grid, wanted, allowed).boxes(limit - len(boxes))

@@ -2,7 +2,7 @@
 import re
 import struct
 
-from .source import Brush, MapFault, Model, Point, Source, brush_of
+from .source import MOST, Brush, MapFault, Model, Point, Source, brush_of
 
 VERSION = 46
 ENTITIES, SHADERS, PLANES, MODELS, BRUSHES, SIDES, VERTICES, FACES = 0, 1, 2, 7, 8, 9, 10, 13
@@ -70,12 +70,12 @@ def curve_points(controls: list[Point], width: int, height: int) -> list[Point]:
             spans = [max(nine[k][axis] for k in range(9)) - min(nine[k][axis] for k in range(9)) for axis in range(3)]
             steps = max(2, min(MOST_STEPS, int(max(spans) / CURVE_STEP) + 1))
             weights = [((1 - t) ** 2, 2 * t * (1 - t), t * t) for t in (i / steps for i in range(steps + 1))]
-            for u in weights:
-                line = [
-                    tuple(sum(u[i] * nine[3 * i + j][axis] for i in range(3)) for axis in range(3)) for j in range(3)
-                ]
+            for a, b, c in weights:
+                (x0, y0, z0), (x1, y1, z1), (x2, y2, z2) = (
+                    [a * one + b * two + c * three for one, two, three in zip(*nine[j::3])] for j in range(3)
+                )
                 points += [
-                    tuple(sum(v[j] * line[j][axis] for j in range(3)) for axis in range(3)) for v in weights
+                    (a * x0 + b * x1 + c * x2, a * y0 + b * y1 + c * y2, a * z0 + b * z1 + c * z2) for a, b, c in weights
                 ]
     return points
 
@@ -92,7 +92,10 @@ def curves_of(lumps: Lumps) -> list[list[Point]]:
         _, flags, contents = shaders[shader]
         if not contents & 1 or flags & NON_SOLID or width * height != count or first + count > len(vertices):
             continue
-        found.append(curve_points(vertices[first : first + count], width, height))
+        controls = vertices[first : first + count]
+        if not all(abs(part) <= MOST for at in controls for part in at):
+            raise MapFault("it is broken: a curve has a number that no map has")
+        found.append(curve_points(controls, width, height))
     return found
 
 

@@ -3,7 +3,7 @@ import re
 
 from .source import LAVA, PLAYER_CLIP, SLIME, SOLID, MapFault, Model, Source, brush_of
 
-NUMBER = r"(-?[0-9.]+(?:[eE][-+]?[0-9]+)?)"
+NUMBER = r"(-?(?:[0-9]+\.?[0-9]*|\.[0-9]+)(?:[eE][-+]?[0-9]+)?)"
 POINTS = re.compile(r"\(\s*" + r"\s*\)\s*\(\s*".join([r"\s+".join([NUMBER] * 3)] * 3) + r"\s*\)\s*(\S+)")
 PAIR = re.compile(r'"([^"]*)"\s+"([^"]*)"')
 # What a player goes through, by the end of its texture's name.

@@ -1,7 +1,8 @@
 """What a map of Quake says, whichever file it came from: brushes, curves and entities, in units of Quake."""
-import math
 from dataclasses import dataclass, field
 
+# No number of a map is beyond this one.
+MOST = 1e9
 SOLID = 1
 LAVA = 8
 SLIME = 16
@@ -116,6 +117,8 @@ def is_axial(n: Point) -> bool:
 
 def brush_of(planes, contents: int) -> Brush | None:
     """A brush of these planes, or None where it has no inside."""
+    if not all(abs(part) <= MOST for n, d in planes for part in (*n, d)):
+        raise MapFault("it is broken: a brush has a number that no map has")
     box = axial_box(planes)
     is_box = all(is_axial(n) for n, _ in planes)
     if box is None:
@@ -127,19 +130,25 @@ def brush_of(planes, contents: int) -> Brush | None:
     return None if brush.is_empty() else brush
 
 
-def filled_share(brush: Brush, across: int = 6) -> float:
-    """How much of its box a brush fills, by the middles of across^3 cells."""
+def fills(brush: Brush, share: float, across: int = 6) -> bool:
+    """Whether a brush fills this share of its box, by the middles of across^3 cells."""
     if brush.is_box:
-        return 1.0
+        return True
     sides = [hi - lo for lo, hi in zip(brush.lo, brush.hi)]
-    inside = 0
     slanted = [(n, d) for n, d in brush.planes if not is_axial(n)]
     places = [[lo + side * (i + 0.5) / across for i in range(across)] for lo, side in zip(brush.lo, sides)]
+    whole, outside = across**3, 0
     for x in places[0]:
         for y in places[1]:
+            across_z = [(n[0] * x + n[1] * y, n[2], d) for n, d in slanted]
             for z in places[2]:
-                inside += all(n[0] * x + n[1] * y + n[2] * z <= d for n, d in slanted)
-    return inside / across**3
+                for part, nz, d in across_z:
+                    if part + nz * z > d:
+                        outside += 1
+                        if (whole - outside) / whole < share:
+                            return False
+                        break
+    return True
 
 
 def number(entity: dict[str, str], key: str, default: float) -> float:
@@ -148,7 +157,7 @@ def number(entity: dict[str, str], key: str, default: float) -> float:
         value = float(entity.get(key, "").split()[0])
     except (IndexError, ValueError):
         return default
-    return value if math.isfinite(value) else default
+    return value if abs(value) <= MOST else default
 
 
 def point(entity: dict[str, str], key: str = "origin") -> Point | None:
@@ -158,4 +167,4 @@ def point(entity: dict[str, str], key: str = "origin") -> Point | None:
         at = tuple(float(part) for part in parts)
     except ValueError:
         return None
-    return at if len(at) == 3 and all(math.isfinite(part) for part in at) else None
+    return at if len(at) == 3 and all(abs(part) <= MOST for part in at) else None

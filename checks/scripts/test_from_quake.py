@@ -1,0 +1,88 @@
+"""`from_quake`: what a user does wrong. `checks/from_quake` tries what it makes of maps."""
+import os
+import random
+import resource
+import struct
+import subprocess
+import unittest
+import zipfile
+
+from calls import SECONDS, Calls
+from common import CHECKS, TOOLS, script
+
+maps = script(CHECKS, "from_quake")
+SPAWN = '{ "classname" "info_player_deathmatch" "origin" "0 0 30" }'
+MOST_MEMORY = 4_000_000_000
+
+
+def bounded():
+    resource.setrlimit(resource.RLIMIT_AS, (MOST_MEMORY, MOST_MEMORY))
+
+
+class FromQuake(Calls):
+    def room(self, name="room.map", *more):
+        return self.path(name, maps.room(*more).encode())
+
+    def test_what_a_user_does_wrong(self):
+        os.symlink("/none", self.path("link"))
+        room = self.room()
+        for words in (
+            [], ["a", "b"], [room, "--depth", "6"], [room, "--limit", "0"], [room, "--lim", "5"], [self.path("none")],
+            [self.folder], [self.path("link")], [room + ":maps/x.bsp.none", "--limit", "x"],
+        ):
+            self.call("from_quake", *words, status=2)
+        for words in ([room + ":x.bsp"], [room, "--about", "/none/x"], [room, "--about", self.folder], ["-"]):
+            error = self.call("from_quake", *words, status=1)[1]
+            self.assertEqual(error.count(b"from_quake: "), 1, error)
+
+    def test_outputs_that_take_nothing(self):
+        room = self.room()
+        error, status = self.into_closed_pipe("from_quake", room)
+        self.assertTrue(error.endswith(b"from_quake: the output was closed before all of it was written\n"))
+        self.assertEqual(status, 1)
+        for words in ([], ["--about", "/dev/full"]):
+            with open("/dev/full", "w") as full:
+                done = subprocess.run(
+                    [os.path.join(TOOLS, "from_quake"), room, *words], stdout=full, stderr=subprocess.PIPE, timeout=SECONDS
+                )
+            self.assertEqual(done.returncode, 1)
+            self.assertTrue(done.stderr.endswith(b"No space left on device\n"), done.stderr)
+
+    def test_names(self):
+        with zipfile.ZipFile(self.path("a :b.pk3"), "w") as package:
+            package.write(self.room("\x1b[31m room.map"), "maps/room.map")
+        plain = self.call("from_quake", self.path("\x1b[31m room.map"), status=0)
+        packed = self.call("from_quake", self.path("a :b.pk3") + ":maps/room.map", status=0)
+        self.assertEqual(plain[0], packed[0])
+        self.assertIn(b"\\x1b[31m room.map: ", plain[1])
+        self.assertIn(b"has no x\\x1by\n", self.call("from_quake", self.path("a :b.pk3") + ":x\x1by", status=1)[1])
+
+    def test_no_control_byte_is_written(self):
+        evil = maps.entity_text({"classname": "func_\x1b]0;evil\x07", "origin": "0 0 10"})
+        out, error, _ = self.call("from_quake", self.room("evil.map", evil), "--about", self.path("about"), status=0)
+        with open(self.path("about"), "rb") as about:
+            written = out + error + about.read()
+        self.assertIn(b"func_\\x1b]0;evil\\x07: not carried", error)
+        self.assertTrue(all(32 <= b <= 126 or b == 10 for b in written), written)
+
+    def test_broken_files(self):
+        """Bytes of a BSP and of a text are changed at random: a map or a sentence comes of each."""
+        rng = random.Random(5)
+        planes = [maps.box_planes(*wall) for wall in maps.WALLS] + [maps.RAMP]
+        bsp, text = maps.pack_bsp(planes, SPAWN), maps.full_room().encode()
+        odd = [struct.pack("<f", value) for value in (float("nan"), float("inf"), 1e30, -1e9, 40000.0)]
+        odd += [struct.pack("<i", value) for value in (-1, 1 << 30, -(1 << 31))]
+        for data, name in ((bsp, "broken.bsp"), (text, "broken.map")):
+            for _ in range(12):
+                changed = bytearray(data)
+                for _ in range(rng.randrange(1, 4)):
+                    at = rng.randrange(8, len(data) // 4) * 4
+                    value = rng.choice(odd) if name.endswith("bsp") else str(rng.choice((1e30, -9e99, "nan", '"', "}"))).encode()
+                    changed[at : at + 4] = value
+                _, error, status = self.call("from_quake", self.path(name, bytes(changed)), preexec_fn=bounded)
+                self.assertIn(status, (0, 1), error)
+                self.assertNotIn(b"memory", error)
+
+
+if __name__ == "__main__":
+    unittest.main()
