@@ -1,7 +1,7 @@
 -- The action of a map means what its map says.
 use Rattle.std.proofs.Common.{◌≡◌, cond}
 use Rattle.std.proofs.Props.{props}
-use Rattle.arena_map.specs.Maps.{MapView, IsMap}
+use Rattle.arena_map.specs.Maps.{IsMap}
 use Rattle.arena_outcomes.specs.Outcomes.{outcome_in, shot_outcome}
 use Rattle.arena_outcomes.specs.Regions.{region_in, shot_region}
 use Rattle.arena_outcomes.specs.Takes.{takes}

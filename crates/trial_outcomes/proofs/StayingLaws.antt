@@ -1,6 +1,6 @@
 -- The action by which a player stays where it is, is lawful.
-use Rattle.std.proofs.Common.{◌≡◌, ℕ, ◌^◌, ◌<◌, nat_lt, nat_le, Bool, true, false, ◌&&◌, ℤ, int_le, []}
-use Rattle.std.proofs.Common.{List, ◌∷◌, refl, arith}
+use Rattle.std.proofs.Common.{◌≡◌, ℕ, ◌^◌, ◌<◌, nat_lt, nat_le, true, false, ℤ, int_le, []}
+use Rattle.std.proofs.Common.{◌∷◌, refl, arith}
 use Rattle.std.specs.Prelude.{◌==◌}
 use Rattle.std.specs.List.{IsDistinct}
 use Rattle.std.proofs.lemmas.Bool.{and_from, false≢true, and_parts, lt-ltb, leb-true, ltb-true}
@@ -14,10 +14,8 @@ use Rattle.entity_recs.specs.declared.bodies.TheConstants.{PLAYER_MINS, PLAYER_M
 use Rattle.entity_recs.specs.declared.kind.Kind.{Kind}
 use Rattle.entity_recs.specs.declared.kind.Kind.TheVariants.{Player, Ammo, Gem, Teleporter, Goal, Lift}
 use Rattle.entity_recs.specs.declared.rec.Rec.{Rec}
-use Rattle.entity_recs.specs.declared.effect.Effect.{Effect}
 use Rattle.entity_recs.specs.declared.effect.NewState.{NewState}
 use Rattle.entity_recs.specs.Bodies.{abs_of}
-use Rattle.entity_recs.specs.Commands.{Command}
 use Rattle.entity_recs.specs.Actions.{IsKeepable, HasValidity, HasLocality, HasFootprint}
 use Rattle.entity_recs.proofs.Standing.{records_have_boxes}
 use Rattle.trial_outcomes.specs.Staying.{is_player, is_taken, takes, region_of, effect_of}
