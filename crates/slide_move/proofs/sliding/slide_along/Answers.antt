@@ -1,5 +1,5 @@
-use Rattle.std.proofs.Common.{◌≡◌, ◌+◌, ◌-◌, ◌++◌, ◌∙◌, arith, ap, sym, subst}
-use Rattle.arena_geo.specs.Bounds.{Bounds, IsInRange}
+use Rattle.std.proofs.Common.{◌≡◌, ◌+◌, ◌-◌, ◌++◌, ◌∙◌, arith, sym, subst}
+use Rattle.arena_geo.specs.Bounds.{IsInRange}
 use Rattle.arena_geo.specs.Boxes.{moved}
 use Rattle.slide_move.specs.declared.slid.Slid.{Slid}
 use Rattle.slide_move.proofs.Ways.{IsInRange-part, moved-zero_vector}
