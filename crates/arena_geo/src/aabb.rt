@@ -104,6 +104,17 @@ impl Aabb {
         self.hi
     }
 
+    /// A copy of the box, with corners that are ordered and in range.
+    pub fn copied(&self) -> Aabb
+        ensures value { result ≡ self.now }
+        ensures is_box { IsBox self.now }
+    {
+        Aabb {
+            lo: self.lo,
+            hi: self.hi,
+        }
+    }
+
     /// Whether on each axis each box begins strictly before the other ends.
     pub fn overlaps(&self, o: &Aabb) -> bool
         ensures { result ≡ boxes.overlaps self.now o.now }

@@ -32,10 +32,8 @@ impl Region {
     pub fn one(b: Aabb) -> Region
         ensures { result ≡ b ∷ [] }
     {
-        // To read a corner is to know that the box is ordered and in range.
-        let _corner = b.lo();
         Region {
-            boxes: [b; REGION_BOXES],
+            boxes: [b.copied(); REGION_BOXES],
             len: 1,
         }
     }
@@ -49,9 +47,7 @@ impl Region {
         if self.len == REGION_BOXES {
             return false;
         }
-        // To read a corner is to know that the box is ordered and in range.
-        let _corner = b.lo();
-        self.boxes[self.len] = b;
+        self.boxes[self.len] = b.copied();
         self.len += 1;
         true
     }

@@ -392,6 +392,7 @@ impl ArenaMap {
         ensures some { is_some result ≡ has_thing is_lift self.now id }
         ensures value { result ≡ maps.lift_of self.now id }
         ensures lift { IfSome result IsLift }
+        ensures rules { IsMap self.now }
     {
         lift_data(&self.thing_of(id)?)
     }

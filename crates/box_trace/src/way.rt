@@ -74,10 +74,8 @@ impl Way {
         ensures body { result.body ≡ body.now }
         ensures d { result.d ≡ d }
     {
-        // To read a corner is to know that the box is ordered and in range.
-        let _corner = body.lo();
         Way {
-            body: *body,
+            body: body.copied(),
             d,
             count: step_count(d),
         }

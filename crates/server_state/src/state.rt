@@ -67,8 +67,6 @@ impl State {
         ensures room { out.new.room ≡ out.old.room }
         ensures tree { self.new.world.tree ≡ self.old.world.tree }
     {
-        // To ask for the bounds is to know that the map keeps its rules.
-        let _rules = map.bounds();
         tick(map, &mut self.world, frame);
         self.ports
             .receive(map, &mut self.world, frame, arrivals, out);

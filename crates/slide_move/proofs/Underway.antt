@@ -41,6 +41,14 @@ begins body vel way solids = record {
   rest = let P : Vec3 → Type 0 = λ v. IsPartOfWay v way in subst P (sym (minus-zero_vector way)) (IsPartOfWay-refl way);
 }
 
+-- where the next leg takes a body from the end of the legs so far
+pub then_there : (body here : Bounds) (slid leg next : Slid) → here ≡ moved body slid.shift → next ≡ joined slid leg
+    → moved here leg.shift ≡ moved body next.shift
+then_there body here slid leg next at next_is =
+    ap (λ (b : Bounds). moved b leg.shift) at
+    ∙ moved-moved body slid.shift leg.shift
+    ∙ ap (λ (s : Slid). moved body s.shift) (sym next_is)
+
 -- a leg that ends the slide, and one that doesn't
 pub along-last : (traces : ℕ) (body : Bounds) (vel way : Vec3) (solids : List Bounds)
     → (leg_of body vel way solids).rest ≡ None

@@ -52,17 +52,16 @@ fn slide_along(body: &Aabb, vel: Vec3, way: Vec3, fixed: &[Aabb], moving: &[Aabb
     ensures value { result ≡ slide_along 4 body.now vel way (fixed.now ++ moving.now) }
     ensures in_range { IsInRange (moved body.now result.shift) }
 {
-    // To read a corner is to know that the box is ordered and in range.
-    let _corner = body.lo();
+    let mut here = body.copied();
     let mut slid = Slid::still(vel);
     let mut left = way;
     for _ in 0..TRACES {
-        let here = body.shifted(slid.shift);
         let leg = Leg::of(&here, slid.vel, left, fixed, moving);
         slid = slid.then(leg.slid);
         let Some(rest) = leg.rest else {
             return slid;
         };
+        here = here.shifted(leg.slid.shift);
         left = rest;
     }
     slid

@@ -25,8 +25,8 @@ has_room step slot old new is room =
     record { moved_is_record = λ r at carried. room.moved_is_record r (sym (is.rest slot (omega arith)) ∙ at) carried }
 
 -- after all slots all that are carried are
-pub all_carried : (step : LiftStep) (slot : ℕ) (w : WorldView) (new : List (Option Rec)) → IsLinked w → 64 ≤ slot → IsChangedBelow (carried_along step) slot w.records new
-    → new ≡ each_changed (carried_along step) w.records
-all_carried step slot w new linked past is =
-    changed_all (carried_along step) slot w.records new is (λ k r later at.
-    ap (λ b. cond b (raised r step.up) r) (not_carried_past step k r (is_entry w k r linked at) (omega (arith, later, past))))
+pub all_carried : (step : LiftStep) (slot : ℕ) (old : List (Option Rec)) (new : WorldView) → IsLinked new → 64 ≤ slot → IsChangedBelow (carried_along step) slot old new.records
+    → new.records ≡ each_changed (carried_along step) old
+all_carried step slot old new linked past is =
+    changed_all (carried_along step) slot old new.records is (λ k r later at.
+    ap (λ b. cond b (raised r step.up) r) (not_carried_past step k r (is_entry new k r linked (is.rest k later ∙ at)) (omega (arith, later, past))))

@@ -1,4 +1,5 @@
 ghost use Rattle.std.specs.Prelude.{◌≡◌, ◌<◌, ℕ, Some};
+ghost use Rattle.world_tree.specs.Worlds.{IsLinked};
 ghost use Rattle.world_physics.specs.Returns.{each_changed, changed_at};
 ghost use Rattle.world_physics.specs.LiftSteps.{IsStep, HasRoom, carried_along};
 
@@ -13,6 +14,7 @@ fn carry_slot(world: &mut World, step: &LiftStep, slot: u16)
     requires slot { slot < SLOTS }
     ensures records { world.new.records ≡ changed_at (carried_along step.now) world.old.records slot }
     ensures tree { world.new.tree ≡ world.old.tree }
+    ensures linked { IsLinked world.new }
 {
     if let Some(r) = world.get(slot) {
         if step.carries(&r) {
@@ -28,8 +30,6 @@ pub fn carry(world: &mut World, step: &LiftStep)
     ensures records { world.new.records ≡ each_changed (carried_along step.now) world.old.records }
     ensures tree { world.new.tree ≡ world.old.tree }
 {
-    // To ask for the tree is to know that the world is linked, and so that it has `IDS` places.
-    let _linked = world.tree();
     for slot in 0..SLOTS as u16 {
         carry_slot(world, step, slot);
     }

@@ -29,8 +29,6 @@ fn meets_others(world: &World, step: &LiftStep, body: &Aabb) -> bool
     requires { IsStep step.now }
     ensures { result ≡ list_any (is_in_the_way step.now body.now) (live_in world.now.records) }
 {
-    // To ask for the tree is to know that the world is linked, and so that it has `IDS` places.
-    let _linked = world.tree();
     for id in 0..IDS as u16 {
         if is_met(step, world.get(id), body) {
             return true;
@@ -68,8 +66,6 @@ pub fn is_stopped(map: &ArenaMap, world: &World, step: &LiftStep) -> bool
     requires { IsStep step.now }
     ensures { result ≡ steps.is_stopped map.now step.now world.now.records }
 {
-    // To ask for the tree is to know that the world is linked, and so that it has `IDS` places.
-    let _linked = world.tree();
     for slot in 0..SLOTS as u16 {
         if presses(map, world, step, world.get(slot)) {
             return true;

@@ -1,5 +1,6 @@
 ghost use Rattle.std.specs.Prelude.{◌≡◌, ◌<◌};
 ghost use Rattle.entity_recs.specs.Records.{with_state};
+ghost use Rattle.world_tree.specs.Worlds.{IsLinked};
 ghost use Rattle.world_physics.specs.Returns as spec;
 ghost use Rattle.world_physics.specs.Returns.{after_returns, changed_at, returned};
 
@@ -25,6 +26,7 @@ fn return_item(world: &mut World, id: u16, frame: u32)
     requires { id < IDS }
     ensures records { world.new.records ≡ changed_at (returned frame) world.old.records id }
     ensures tree { world.new.tree ≡ world.old.tree }
+    ensures linked { IsLinked world.new }
     ensures still { world.new.records ≡ world.old.records → world.new ≡ world.old }
 {
     if let Some(r) = world.get(id) {
@@ -40,8 +42,6 @@ pub fn return_items(world: &mut World, frame: u32)
     ensures tree { world.new.tree ≡ world.old.tree }
     ensures still { world.new.records ≡ world.old.records → world.new ≡ world.old }
 {
-    // To ask for the tree is to know that the world is linked, and so that it has `IDS` places.
-    let _linked = world.tree();
     for id in 0..IDS as u16 {
         return_item(world, id, frame);
     }

@@ -1,5 +1,5 @@
 ghost use Rattle.std.specs.Prelude.{◌≡◌, Some};
-ghost use Rattle.arena_map.specs.Maps.{lift_of};
+ghost use Rattle.arena_map.specs.Maps.{IsMap, lift_of};
 ghost use Rattle.arena_map.specs.Validity.{IsValidWorld};
 ghost use Rattle.world_tree.specs.Live.{record_at};
 ghost use Rattle.world_physics.specs.Ticks.{after_lift, after_thing, after_tick};
@@ -14,6 +14,7 @@ use world_tree::World;
 
 /// Makes the step of the lift with this id: whole, or, where it would press a player, not at all.
 fn move_lift(map: &ArenaMap, world: &mut World, id: u16, lift: &Lift)
+    requires rules { IsMap map.now }
     requires valid { IsValidWorld map.now world.old.records }
     requires lift { lift_of map.now id ≡ Some lift.now }
     ensures records { world.new.records
@@ -22,8 +23,6 @@ fn move_lift(map: &ArenaMap, world: &mut World, id: u16, lift: &Lift)
     ensures valid { IsValidWorld map.now world.new.records }
     ensures still { world.new.records ≡ world.old.records → world.new ≡ world.old }
 {
-    // To ask for the bounds is to know that the map keeps its rules.
-    let _rules = map.bounds();
     let r = world.get(id).unwrap();
     let step = LiftStep::of(lift, &r);
     if !is_stopped(map, world, &step) {
@@ -57,13 +56,12 @@ fn move_thing(map: &ArenaMap, world: &mut World, thing: &Rec)
 /// Each record that changes is linked anew. It takes no memory.
 pub fn tick(map: &ArenaMap, world: &mut World, frame: u32)
     requires { IsValidWorld map.now world.old.records }
+    ensures rules { IsMap map.now }
     ensures records { world.new.records ≡ after_tick map.now frame world.old.records }
     ensures tree { world.new.tree ≡ world.old.tree }
     ensures valid { IsValidWorld map.now world.new.records }
     ensures still { world.new.records ≡ world.old.records → world.new ≡ world.old }
 {
-    // To ask for the bounds is to know that the map keeps its rules.
-    let _rules = map.bounds();
     return_items(world, frame);
     for thing in map.entities() {
         move_thing(map, world, thing);

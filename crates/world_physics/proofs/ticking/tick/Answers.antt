@@ -44,5 +44,5 @@ returns-clause-records c =
 
 pub returns-clause-still : goal.returns-clause-still
 returns-clause-still c =
-    still_last c.args.map.now c.args.frame c.loop-thing.thing-index c.args.world.now c.loop-thing.world c.bounds-rules.ensures.rules c.requires
+    still_last c.args.map.now c.args.frame c.loop-thing.thing-index c.args.world.now c.loop-thing.world c.entities-thing-items.ensures.rules c.requires
     (returns-clause-records c) c.loop-thing.invariant.1.1.1
