@@ -18,7 +18,7 @@ returns-in_err-event-in-Ok-Whole-clause-stop g c =
     let line = rw (← c.as_slice.ensures.value) at gives in
     let needed = rw c.in-Ok-Whole.field-0-is at c.in-Ok-Whole.ensures.needed in
     let before_end = rw c.in-Ok-Whole.field-0-is at c.in-Ok-Whole.ensures.before_end in
-    let same = c.in-Ok-Whole.ensures.uncounted ∙ inv.uncounted in
+    let same = c.in-Ok-Whole.ensures.faults.uncounted ∙ inv.uncounted in
     let stops = c.in_err-event-in-Ok-Whole.ensures in
     let old = reader_without_stop c.args.lines.now c.args.reading.now c.args.is_cut.now in
     let new = reader_after c.next_line.new.self c.take_line.new.reading c.loop-reading.is_cut (Err c.in_err-event-in-Ok-Whole.field-0.0) in
@@ -67,7 +67,7 @@ returns-in-Some-clause-event g c =
       map = keeps_map _ c.take_line.new.reading
           (so_far-line _ c.loop-reading.reading c.take_line.new.reading c.as_slice.result.now inv.map inv.walks.holds taken.next taken.goes_on)
           (ap is_map_whole stage ∙ whole_after c.in-Some.event);
-      uncounted = c.in-Ok-Whole.ensures.uncounted ∙ inv.uncounted;
+      uncounted = c.in-Ok-Whole.ensures.faults.uncounted ∙ inv.uncounted;
       keeps = λ sure. c.next_line.ensures.keeps (inv.keeps sure);
       ok = refl;
       holds = c.take_line.ensures.holds;
@@ -89,7 +89,7 @@ loop-reading-preserved g c =
       needed = HasNotReadAhead-trans g.S.Source.last _ _ _ _ _ _ inv.needed needed;
       before_end = before_end ∙ inv.before_end;
       cut = inv.cut;
-      uncounted = c.in-Ok-Whole.ensures.uncounted ∙ inv.uncounted;
+      uncounted = c.in-Ok-Whole.ensures.faults.uncounted ∙ inv.uncounted;
       keeps = λ sure. c.next_line.ensures.keeps (inv.keeps sure);
     }
 
@@ -99,7 +99,7 @@ returns-in-Ok-Long-clause-stop g c =
     let gives = rw c.in-Ok-Long.field-0-is at c.in-Ok-Long.ensures.long in
     let needed = rw c.in-Ok-Long.field-0-is at c.in-Ok-Long.ensures.needed in
     let before_end = rw c.in-Ok-Long.field-0-is at c.in-Ok-Long.ensures.before_end in
-    let same = c.in-Ok-Long.ensures.uncounted ∙ inv.uncounted in
+    let same = c.in-Ok-Long.ensures.faults.uncounted ∙ inv.uncounted in
     rw c.refused_after.ensures
     (record {
       refused = record {
@@ -139,7 +139,7 @@ returns-in-Ok-Ended-clause-event g c =
       map = keeps_map _ c.take_last.new.reading
           (so_far-line _ c.loop-reading.reading c.take_last.new.reading line inv.map inv.walks.holds taken.next taken.goes_on)
           (ap is_map_whole stage ∙ whole_after event);
-      uncounted = c.in-Ok-Ended.ensures.uncounted ∙ inv.uncounted;
+      uncounted = c.in-Ok-Ended.ensures.faults.uncounted ∙ inv.uncounted;
       keeps = λ sure. c.next_line.ensures.keeps (inv.keeps sure);
       ok = refl;
       holds = c.take_last.ensures.holds;
@@ -152,7 +152,7 @@ returns-in_err-event-in-Ok-Ended-clause-stop g c =
     let last = rw (← c.as_slice-in-Ok-Ended.ensures.value) at gives in
     let at_end = rw c.in-Ok-Ended.field-0-is at c.in-Ok-Ended.ensures.at_end in
     let line = c.as_slice-in-Ok-Ended.result.now in
-    let same = c.in-Ok-Ended.ensures.uncounted ∙ inv.uncounted in
+    let same = c.in-Ok-Ended.ensures.faults.uncounted ∙ inv.uncounted in
     let stops = c.in_err-event-in-Ok-Ended.ensures in
     let old = reader_without_stop c.args.lines.now c.args.reading.now c.args.is_cut.now in
     let new = reader_after c.next_line.new.self c.take_last.new.reading c.loop-reading.is_cut (Err c.in_err-event-in-Ok-Ended.field-0.0) in
@@ -186,11 +186,11 @@ returns-in-Err-clause-stop g c =
       read_fault = record {
         read_fault = λ open'. ReadsFront-drained _ c.loop-reading.reading _ _ (g.S.Source.left c.next_line.new.source) c.next_line.new.self c.next_line.new.line inv.walks.reads inv.walks.going fails.failed;
         no_end = fails.no_end ∙ inv.before_end;
-        cause = λ open'. rw (← inv.uncounted) fails.cause;
+        cause = λ open'. rw (← inv.uncounted) fails.faults.cause;
         sure = λ open' sure. (let none : false ≡ true = fails.sure (inv.keeps sure) in cc);
       };
       memory = tt;
-      later = rw (← inv.uncounted) c.next_line.ensures.later;
+      later = rw (← inv.uncounted) c.next_line.ensures.faults.later;
       keeps = λ sure. c.next_line.ensures.keeps (inv.keeps sure);
       err = refl;
       cut_kept = inv.cut;
