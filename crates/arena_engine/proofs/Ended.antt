@@ -11,8 +11,8 @@ use Rattle.demo_lines.specs.declared.event.Event.TheVariants.{End}
 use Rattle.demo_lines.specs.declared.demo_stop.DemoStop.{DemoStop}
 use Rattle.demo_lines.specs.declared.demo_stop.DemoStop.TheVariants as demo_stop
 use Rattle.demo_lines.specs.Readings.{IsReading}
-use Rattle.demo_lines.specs.Reads.{DemoReaderView, fresh_reader, map_taken, IsOpen, Reads, ReadsFront, Refuses, TakesCutEnd, EndsAt, stage_after}
-use Rattle.demo_lines.specs.Reads as reads_of
+use Rattle.demo_lines.specs.Reads.{DemoReaderView, fresh_reader, map_taken, IsOpen}
+use Rattle.demo_lines.specs.Outcomes.{GivesEvent, IsStoppedBy}
 use Rattle.out_text.specs.OutLines.{text_of}
 use Rattle.out_text.specs.Printers.{Prints, FailsIn}
 use Rattle.arena_engine.specs.declared.stop.Stop.{Stop}
@@ -30,30 +30,6 @@ use Rattle.arena_engine.specs.Progress.{IsNext, MayGoOn}
 use Rattle.arena_engine.proofs.Exits.{HoldAtFirst, memory_at_first}
 use Rattle.arena_engine.proofs.Running as running
 
--- what a call of a reader says where it stops
-pub record ReaderStops {S : Type 0} (s : sources.Ghosts S) (old new : DemoReaderView) (source source' : S) (d : DemoStop) : Type 0 where
-  pub refused : IsOpen old → reads_of.OnRefused d (λ why. IfSome (ahead old.pending (s.left source)) (EndsAt old.reading why))
-  pub taken : IsOpen old → reads_of.OnRefused d (λ why. Refuses old.reading (ahead old.pending (s.left source)) (ahead new.pending (s.left source')) why.line
-      (HasNotReadAhead source source' (s.last source') old.pending new.pending × (s.ended source' ≡ s.ended source)) (s.ended source' ≡ true))
-  pub read_fault : IsOpen old → reads_of.OnReadFault d (ReadsFront old.reading (ahead old.pending (s.left source)) (s.left source') [])
-  pub no_end : reads_of.OnReadFault d (s.ended source' ≡ s.ended source)
-  pub cause : IsOpen old → reads_of.OnReadFault d (HasRisen (s.faults source) (s.faults source'))
-  pub sure : IsOpen old → s.never_fails source → reads_of.OnReadFault d ⊥
-  pub later : s.faults source ≤ s.faults source'
-  pub uncounted_refusal : reads_of.OnRefused d (λ _. s.faults source' ≡ s.faults source)
-  pub uncounted_memory : reads_of.OnNoMemory d (s.faults source' ≡ s.faults source)
-
--- and where it gives an event
-pub record ReaderGives {S : Type 0} (s : sources.Ghosts S) (old new : DemoReaderView) (source source' : S) (e : Event) : Type 0 where
-  pub event : IsOpen old → Reads old.reading new.reading (ahead old.pending (s.left source)) (ahead new.pending (s.left source')) (e ∷ [])
-  pub stage : new.reading.stage ≡ stage_after e
-  pub needed : IsOpen old → (HasNotReadAhead source source' (s.last source') old.pending new.pending × (s.ended source' ≡ s.ended source))
-      ⊎ ((e ≡ End) × TakesCutEnd (ahead old.pending (s.left source)) (ahead new.pending (s.left source')) × (s.ended source' ≡ true))
-  pub uncounted : s.faults source' ≡ s.faults source
-  pub keeps : s.never_fails source → s.never_fails source'
-  pub ok : new.stop ≡ None
-  pub holds : IsReading new.reading
-
 -- ---- before the first event
 
 module _ {S K : Type 0} (s : sources.Ghosts S) (k : sinks.Ghosts K) (texts : Texts) (hold : HoldAtFirst texts) (source source' : S) (sink : K) (last : Last) (none : last ≡ no_last) where
@@ -62,31 +38,31 @@ module _ {S K : Type 0} (s : sources.Ghosts S) (k : sinks.Ghosts K) (texts : Tex
   no_memory_at_first same = record { output = memory_at_first texts hold (k.taken sink) last none (s.left source); reads = same; writes = refl }
 
   -- the reader stopped
-  pub stopped_at_first : (old new : DemoReaderView) (d : DemoStop) → old ≡ fresh_reader → ReaderStops s old new source source' d → PlaysTo s k texts source source' sink sink last (Err (stop_of d))
+  pub stopped_at_first : (old new : DemoReaderView) (d : DemoStop) → old ≡ fresh_reader → IsStoppedBy s old new source source' d → PlaysTo s k texts source source' sink sink last (Err (stop_of d))
   stopped_at_first old new (demo_stop.Refused line fault rule) fresh stops = record {
-    output = running.first_refused texts hold old (demo_stop.Refused line fault rule) (s.left source) (k.taken sink) last none fresh stops.refused;
-    read = running.first_refusal s.last s.ended s.never_fails source source' old new.pending (demo_stop.Refused line fault rule) (s.left source) (s.left source') fresh stops.taken;
-    reads = stops.uncounted_refusal;
+    output = running.first_refused texts hold old (demo_stop.Refused line fault rule) (s.left source) (k.taken sink) last none fresh stops.refused.refused;
+    read = running.first_refusal s.last s.ended s.never_fails source source' old new.pending (demo_stop.Refused line fault rule) (s.left source) (s.left source') fresh stops.refused.taken;
+    reads = stops.refused.uncounted;
     writes = refl;
   }
   stopped_at_first old new demo_stop.ReadFault fresh stops = record {
-    output = running.first_fault texts hold old demo_stop.ReadFault (s.left source) (k.taken sink) last none fresh (s.left source') stops.read_fault;
+    output = running.first_fault texts hold old demo_stop.ReadFault (s.left source) (k.taken sink) last none fresh (s.left source') stops.read_fault.read_fault;
     front = memory_at_first texts hold (k.taken sink) last none (s.left source);
-    same_end = stops.no_end;
-    cause = subst (λ (x : DemoReaderView). IsOpen x → HasRisen (s.faults source) (s.faults source')) fresh stops.cause running.fresh_is_open;
+    same_end = stops.read_fault.no_end;
+    cause = subst (λ (x : DemoReaderView). IsOpen x → HasRisen (s.faults source) (s.faults source')) fresh stops.read_fault.cause running.fresh_is_open;
     later = stops.later;
-    fails = λ sure. subst (λ (x : DemoReaderView). IsOpen x → s.never_fails source → ⊥) fresh stops.sure running.fresh_is_open sure;
+    fails = λ sure. subst (λ (x : DemoReaderView). IsOpen x → s.never_fails source → ⊥) fresh stops.read_fault.sure running.fresh_is_open sure;
     writes = refl;
   }
   stopped_at_first old new demo_stop.NoMemory fresh stops = record {
     output = memory_at_first texts hold (k.taken sink) last none (s.left source);
-    reads = stops.uncounted_memory;
+    reads = stops.memory.uncounted;
     writes = refl;
   }
 
 -- the event that the reader gave first is the next one, once the map was given out
 pub first_is_next : {S K : Type 0} (s : sources.Ghosts S) (k : sinks.Ghosts K) (workers : ℕ) (source source' : S) (sink : K) (old new taken : DemoReaderView) (arena : MapView) (g : GameView) (e : Event) → old ≡ fresh_reader
-    → taken ≡ map_taken new → ReaderGives s old new source source' e → new.reading.map ≡ Some arena → IsMap arena → g ≡ new_game arena → IsNext s k workers source source' sink sink taken g e
+    → taken ≡ map_taken new → GivesEvent s old new source source' e → new.reading.map ≡ Some arena → IsMap arena → g ≡ new_game arena → IsNext s k workers source source' sink sink taken g e
 first_is_next s k workers source source' sink old new taken arena g e fresh is gives has is_map begun =
     let b = ahead new.pending (s.left source') in
     let progress = running.first_event workers old new.reading (s.left source) b (k.taken sink) e arena g fresh gives.event gives.stage gives.holds has is_map begun in
@@ -149,35 +125,35 @@ module _ {S K : Type 0} (s : sources.Ghosts S) (k : sinks.Ghosts K) (workers : �
     }
 
     -- the reader stopped then
-    pub reader_stopped : (demo' : DemoReaderView) (source' : S) (d : DemoStop) → is_end e ≡ false → ReaderStops s demo demo' source source' d
+    pub reader_stopped : (demo' : DemoReaderView) (source' : S) (d : DemoStop) → is_end e ≡ false → IsStoppedBy s demo demo' source source' d
         → PlaysTo s k (play_texts workers) source0 source' sink0 sink' (unfed g2.last) (Err (stop_of d))
     reader_stopped demo' source' (demo_stop.Refused line fault rule) going stops = record {
       output = running.next_refused workers demo before left (k.taken sink0) (k.taken sink) g e (s.faults source0) (s.faults source) (k.faults sink0) (k.faults sink) (k.room sink0) (k.room sink) at.runs g2 (k.taken sink') plays.closed plays.advances
-          (running.appends_all k.taken k.faults k.room sink sink' _ plays.lines) g2.last refl (demo_stop.Refused line fault rule) going stops.refused;
-      read = running.next_refusal workers demo before left (k.taken sink0) (k.taken sink) g e (s.faults source0) (s.faults source) (k.faults sink0) (k.faults sink) (k.room sink0) (k.room sink) at.runs s.last s.ended s.never_fails source0 source source' (demo_stop.Refused line fault rule) demo'.pending (s.left source') going at.needed stops.taken;
-      reads = stops.uncounted_refusal ∙ at.runs.read_same;
+          (running.appends_all k.taken k.faults k.room sink sink' _ plays.lines) g2.last refl (demo_stop.Refused line fault rule) going stops.refused.refused;
+      read = running.next_refusal workers demo before left (k.taken sink0) (k.taken sink) g e (s.faults source0) (s.faults source) (k.faults sink0) (k.faults sink) (k.room sink0) (k.room sink) at.runs s.last s.ended s.never_fails source0 source source' (demo_stop.Refused line fault rule) demo'.pending (s.left source') going at.needed stops.refused.taken;
+      reads = stops.refused.uncounted ∙ at.runs.read_same;
       writes = plays.lines.uncounted ∙ at.runs.write_same;
     }
     reader_stopped demo' source' demo_stop.ReadFault going stops = record {
       output = running.next_fault workers demo before left (k.taken sink0) (k.taken sink) g e (s.faults source0) (s.faults source) (k.faults sink0) (k.faults sink) (k.room sink0) (k.room sink) at.runs g2 (k.taken sink') plays.closed plays.advances
-          (running.appends_all k.taken k.faults k.room sink sink' _ plays.lines) g2.last refl demo_stop.ReadFault (s.left source') going stops.read_fault;
+          (running.appends_all k.taken k.faults k.room sink sink' _ plays.lines) g2.last refl demo_stop.ReadFault (s.left source') going stops.read_fault.read_fault;
       front = running.next_front workers demo before left (k.taken sink0) (k.taken sink) g e (s.faults source0) (s.faults source) (k.faults sink0) (k.faults sink) (k.room sink0) (k.room sink) at.runs g2 (k.taken sink') plays.closed plays.advances
           (running.appends_all k.taken k.faults k.room sink sink' _ plays.lines) g2.last refl demo_stop.ReadFault going;
-      same_end = stops.no_end ∙ (running.needed_going e _ _ _ going at.needed.needed).1;
-      cause = running.next_cause workers demo before left (k.taken sink0) (k.taken sink) g e (s.faults source0) (s.faults source) (k.faults sink0) (k.faults sink) (k.room sink0) (k.room sink) at.runs demo_stop.ReadFault (s.faults source') going stops.cause;
+      same_end = stops.read_fault.no_end ∙ (running.needed_going e _ _ _ going at.needed.needed).1;
+      cause = running.next_cause workers demo before left (k.taken sink0) (k.taken sink) g e (s.faults source0) (s.faults source) (k.faults sink0) (k.faults sink) (k.room sink0) (k.room sink) at.runs demo_stop.ReadFault (s.faults source') going stops.read_fault.cause;
       later = subst (λ (m : ℕ). m ≤ s.faults source') at.runs.read_same stops.later;
-      fails = λ sure. stops.sure (running.reader_is_open workers demo before left (k.taken sink0) (k.taken sink) g e (s.faults source0) (s.faults source) (k.faults sink0) (k.faults sink) (k.room sink0) (k.room sink) at.runs going) (at.needed.keeps sure);
+      fails = λ sure. stops.read_fault.sure (running.reader_is_open workers demo before left (k.taken sink0) (k.taken sink) g e (s.faults source0) (s.faults source) (k.faults sink0) (k.faults sink) (k.room sink0) (k.room sink) at.runs going) (at.needed.keeps sure);
       writes = plays.lines.uncounted ∙ at.runs.write_same;
     }
     reader_stopped demo' source' demo_stop.NoMemory going stops = record {
       output = running.next_no_memory workers demo before left (k.taken sink0) (k.taken sink) g e (s.faults source0) (s.faults source) (k.faults sink0) (k.faults sink) (k.room sink0) (k.room sink) at.runs g2 (k.taken sink') plays.closed plays.advances
           (running.appends_all k.taken k.faults k.room sink sink' _ plays.lines) g2.last refl demo_stop.NoMemory going;
-      reads = stops.uncounted_memory ∙ at.runs.read_same;
+      reads = stops.memory.uncounted ∙ at.runs.read_same;
       writes = plays.lines.uncounted ∙ at.runs.write_same;
     }
 
     -- or it gave the next one
-    pub next_given : (demo' : DemoReaderView) (source' : S) (e' : Event) → is_end e ≡ false → ReaderGives s demo demo' source source' e' → IsNext s k workers source0 source' sink0 sink' demo' g2 e'
+    pub next_given : (demo' : DemoReaderView) (source' : S) (e' : Event) → is_end e ≡ false → GivesEvent s demo demo' source source' e' → IsNext s k workers source0 source' sink0 sink' demo' g2 e'
     next_given demo' source' e' going gives = record {
       runs = running.runs_on workers demo before left (k.taken sink0) (k.taken sink) g e (s.faults source0) (s.faults source) (k.faults sink0) (k.faults sink) (k.room sink0) (k.room sink) at.runs g2 (k.taken sink') plays.closed plays.advances
           (running.appends_all k.taken k.faults k.room sink sink' _ plays.lines) demo' (ahead demo'.pending (s.left source')) e' (s.faults source') (k.faults sink') (k.room sink') going gives.event gives.stage gives.holds gives.ok gives.uncounted plays.lines.uncounted
@@ -193,7 +169,7 @@ pub record GoesFrom {S K : Type 0} (s : sources.Ghosts S) (k : sinks.Ghosts K) (
 -- one event more was played, and the reader gave the next
 pub goes_further : {S K : Type 0} (s : sources.Ghosts S) (k : sinks.Ghosts K) (workers : ℕ) (source0 source source' : S) (sink0 sink sink' : K) (demo0 demo demo' : DemoReaderView) (g0 g g' : GameView) (e0 e e' : Event)
     → GoesFrom s k workers source0 source sink0 sink demo0 demo g0 g e0 e → Plays workers g g' e (λ lines. Prints k.taken k.faults k.room sink sink' [] [] (text_of lines)) → is_end e ≡ false
-    → ReaderGives s demo demo' source source' e' → GoesFrom s k workers source0 source' sink0 sink' demo0 demo' g0 g' e0 e'
+    → GivesEvent s demo demo' source source' e' → GoesFrom s k workers source0 source' sink0 sink' demo0 demo' g0 g' e0 e'
 goes_further s k workers source0 source source' sink0 sink sink' demo0 demo demo' g0 g g' e0 e e' so_far plays going gives =
     let may = so_far.may in
     record {

@@ -21,11 +21,11 @@ use Rattle.arena_engine.specs.PlayEnds.{PlaysTo}
 use Rattle.arena_engine.specs.FedProgress.{IsFedNext, MayFeedOn}
 use Rattle.arena_engine.proofs.Running as running
 use Rattle.arena_engine.proofs.FedRunning as feeding
-use Rattle.arena_engine.proofs.Ended.{ReaderStops, ReaderGives}
+use Rattle.demo_lines.specs.Outcomes.{GivesEvent, IsStoppedBy}
 
 -- the event that the reader gave first is the next one, once the map was given out
 pub first_is_next : {S K : Type 0} (s : sources.Ghosts S) (k : sinks.Ghosts K) (workers : ℕ) (source source' : S) (sink : K) (old new taken : DemoReaderView) (arena : MapView) (g : FedView) (e : Event) → old ≡ fresh_reader
-    → taken ≡ map_taken new → ReaderGives s old new source source' e → new.reading.map ≡ Some arena → IsMap arena → g ≡ new_fed_game arena → IsFedNext s k workers source source' sink sink taken g e
+    → taken ≡ map_taken new → GivesEvent s old new source source' e → new.reading.map ≡ Some arena → IsMap arena → g ≡ new_fed_game arena → IsFedNext s k workers source source' sink sink taken g e
 first_is_next s k workers source source' sink old new taken arena g e fresh is gives has is_map begun =
     let b = ahead new.pending (s.left source') in
     let progress = feeding.first_event workers old new.reading (s.left source) b (k.taken sink) e arena g fresh gives.event gives.stage gives.holds has is_map begun in
@@ -76,35 +76,35 @@ module _ {S K : Type 0} (s : sources.Ghosts S) (k : sinks.Ghosts K) (workers : �
     }
 
     -- the reader stopped then
-    pub reader_stopped : (demo' : DemoReaderView) (source' : S) (d : DemoStop) → is_end e ≡ false → ReaderStops s demo demo' source source' d
+    pub reader_stopped : (demo' : DemoReaderView) (source' : S) (d : DemoStop) → is_end e ≡ false → IsStoppedBy s demo demo' source source' d
         → PlaysTo s k (feed_texts workers) source0 source' sink0 sink' g2.last (Err (stop_of d))
     reader_stopped demo' source' (demo_stop.Refused line fault rule) going stops = record {
       output = feeding.next_refused workers demo before left (k.taken sink0) (k.taken sink) g e (s.faults source0) (s.faults source) (k.faults sink0) (k.faults sink) (k.room sink0) (k.room sink) at.runs g2 (k.taken sink') plays.closed plays.advances
-          (running.appends_all k.taken k.faults k.room sink sink' _ plays.lines) g2.last refl (demo_stop.Refused line fault rule) going stops.refused;
-      read = feeding.next_refusal workers demo before left (k.taken sink0) (k.taken sink) g e (s.faults source0) (s.faults source) (k.faults sink0) (k.faults sink) (k.room sink0) (k.room sink) at.runs s.last s.ended s.never_fails source0 source source' (demo_stop.Refused line fault rule) demo'.pending (s.left source') going at.needed stops.taken;
-      reads = stops.uncounted_refusal ∙ at.runs.read_same;
+          (running.appends_all k.taken k.faults k.room sink sink' _ plays.lines) g2.last refl (demo_stop.Refused line fault rule) going stops.refused.refused;
+      read = feeding.next_refusal workers demo before left (k.taken sink0) (k.taken sink) g e (s.faults source0) (s.faults source) (k.faults sink0) (k.faults sink) (k.room sink0) (k.room sink) at.runs s.last s.ended s.never_fails source0 source source' (demo_stop.Refused line fault rule) demo'.pending (s.left source') going at.needed stops.refused.taken;
+      reads = stops.refused.uncounted ∙ at.runs.read_same;
       writes = plays.lines.uncounted ∙ at.runs.write_same;
     }
     reader_stopped demo' source' demo_stop.ReadFault going stops = record {
       output = feeding.next_fault workers demo before left (k.taken sink0) (k.taken sink) g e (s.faults source0) (s.faults source) (k.faults sink0) (k.faults sink) (k.room sink0) (k.room sink) at.runs g2 (k.taken sink') plays.closed plays.advances
-          (running.appends_all k.taken k.faults k.room sink sink' _ plays.lines) g2.last refl demo_stop.ReadFault (s.left source') going stops.read_fault;
+          (running.appends_all k.taken k.faults k.room sink sink' _ plays.lines) g2.last refl demo_stop.ReadFault (s.left source') going stops.read_fault.read_fault;
       front = feeding.next_front workers demo before left (k.taken sink0) (k.taken sink) g e (s.faults source0) (s.faults source) (k.faults sink0) (k.faults sink) (k.room sink0) (k.room sink) at.runs g2 (k.taken sink') plays.closed plays.advances
           (running.appends_all k.taken k.faults k.room sink sink' _ plays.lines) g2.last refl demo_stop.ReadFault going;
-      same_end = stops.no_end ∙ (running.needed_going e _ _ _ going at.needed.needed).1;
-      cause = feeding.next_cause workers demo before left (k.taken sink0) (k.taken sink) g e (s.faults source0) (s.faults source) (k.faults sink0) (k.faults sink) (k.room sink0) (k.room sink) at.runs demo_stop.ReadFault (s.faults source') going stops.cause;
+      same_end = stops.read_fault.no_end ∙ (running.needed_going e _ _ _ going at.needed.needed).1;
+      cause = feeding.next_cause workers demo before left (k.taken sink0) (k.taken sink) g e (s.faults source0) (s.faults source) (k.faults sink0) (k.faults sink) (k.room sink0) (k.room sink) at.runs demo_stop.ReadFault (s.faults source') going stops.read_fault.cause;
       later = subst (λ (m : ℕ). m ≤ s.faults source') at.runs.read_same stops.later;
-      fails = λ sure. stops.sure (feeding.reader_is_open workers demo before left (k.taken sink0) (k.taken sink) g e (s.faults source0) (s.faults source) (k.faults sink0) (k.faults sink) (k.room sink0) (k.room sink) at.runs going) (at.needed.keeps sure);
+      fails = λ sure. stops.read_fault.sure (feeding.reader_is_open workers demo before left (k.taken sink0) (k.taken sink) g e (s.faults source0) (s.faults source) (k.faults sink0) (k.faults sink) (k.room sink0) (k.room sink) at.runs going) (at.needed.keeps sure);
       writes = plays.lines.uncounted ∙ at.runs.write_same;
     }
     reader_stopped demo' source' demo_stop.NoMemory going stops = record {
       output = feeding.next_no_memory workers demo before left (k.taken sink0) (k.taken sink) g e (s.faults source0) (s.faults source) (k.faults sink0) (k.faults sink) (k.room sink0) (k.room sink) at.runs g2 (k.taken sink') plays.closed plays.advances
           (running.appends_all k.taken k.faults k.room sink sink' _ plays.lines) g2.last refl demo_stop.NoMemory going;
-      reads = stops.uncounted_memory ∙ at.runs.read_same;
+      reads = stops.memory.uncounted ∙ at.runs.read_same;
       writes = plays.lines.uncounted ∙ at.runs.write_same;
     }
 
     -- or it gave the next one
-    pub next_given : (demo' : DemoReaderView) (source' : S) (e' : Event) → is_end e ≡ false → ReaderGives s demo demo' source source' e' → IsFedNext s k workers source0 source' sink0 sink' demo' g2 e'
+    pub next_given : (demo' : DemoReaderView) (source' : S) (e' : Event) → is_end e ≡ false → GivesEvent s demo demo' source source' e' → IsFedNext s k workers source0 source' sink0 sink' demo' g2 e'
     next_given demo' source' e' going gives = record {
       runs = feeding.runs_on workers demo before left (k.taken sink0) (k.taken sink) g e (s.faults source0) (s.faults source) (k.faults sink0) (k.faults sink) (k.room sink0) (k.room sink) at.runs g2 (k.taken sink') plays.closed plays.advances
           (running.appends_all k.taken k.faults k.room sink sink' _ plays.lines) demo' (ahead demo'.pending (s.left source')) e' (s.faults source') (k.faults sink') (k.room sink') going gives.event gives.stage gives.holds gives.ok gives.uncounted plays.lines.uncounted
@@ -120,7 +120,7 @@ pub record FeedsFrom {S K : Type 0} (s : sources.Ghosts S) (k : sinks.Ghosts K) 
 -- one event more was played, and the reader gave the next
 pub goes_further : {S K : Type 0} (s : sources.Ghosts S) (k : sinks.Ghosts K) (workers : ℕ) (source0 source source' : S) (sink0 sink sink' : K) (demo0 demo demo' : DemoReaderView) (g0 g g' : FedView) (e0 e e' : Event)
     → FeedsFrom s k workers source0 source sink0 sink demo0 demo g0 g e0 e → FedPlays workers g g' e (λ lines. Prints k.taken k.faults k.room sink sink' [] [] (text_of lines)) → is_end e ≡ false
-    → ReaderGives s demo demo' source source' e' → FeedsFrom s k workers source0 source' sink0 sink' demo0 demo' g0 g' e0 e'
+    → GivesEvent s demo demo' source source' e' → FeedsFrom s k workers source0 source' sink0 sink' demo0 demo' g0 g' e0 e'
 goes_further s k workers source0 source source' sink0 sink sink' demo0 demo demo' g0 g g' e0 e e' so_far plays going gives =
     let may = so_far.may in
     record {

@@ -23,7 +23,7 @@ use Rattle.arena_engine.specs.MapReads.{GivesMap, GivesStop}
 use Rattle.arena_engine.proofs.Continuing.{continues, map_of-whole}
 use Rattle.demo_lines.proofs.Consumed.{refusal_on, cut_end_after}
 use Rattle.arena_engine.proofs.Running.{needed_going}
-use Rattle.arena_engine.proofs.Ended.{ReaderStops, ReaderGives}
+use Rattle.demo_lines.specs.Outcomes.{GivesEvent, IsStoppedBy}
 
 -- ---- stages
 
@@ -81,7 +81,7 @@ module _ {S : Type 0} (s : sources.Ghosts S) where
 
   module _ (first now : S) (demo : DemoReaderView) (on : ReadsOn first now demo) (next : S) (demo' : DemoReaderView) where
     -- an event was given, and it wasn't the end
-    pub goes_on : (e : Event) → ReaderGives s demo demo' now next e → KeepsMap demo.reading demo'.reading → is_end e ≡ false → ReadsOn first next demo'
+    pub goes_on : (e : Event) → GivesEvent s demo demo' now next e → KeepsMap demo.reading demo'.reading → is_end e ≡ false → ReadsOn first next demo'
     goes_on e gives kept going =
         let so = needed_going e (HasNotReadAhead now next (s.last next) demo.pending demo'.pending × (s.ended next ≡ s.ended now))
         (TakesCutEnd (ahead demo.pending (s.left now)) (ahead demo'.pending (s.left next))) (s.ended next ≡ true) going (gives.needed on.is_open) in
@@ -98,7 +98,7 @@ module _ {S : Type 0} (s : sources.Ghosts S) where
         }
 
     -- and the recording was read to its end
-    pub gives_map : (e : Event) (m : MapView) → ReaderGives s demo demo' now next e → is_end e ≡ true → demo'.reading.map ≡ Some m → GivesMap s first next m
+    pub gives_map : (e : Event) (m : MapView) → GivesEvent s demo demo' now next e → is_end e ≡ true → demo'.reading.map ≡ Some m → GivesMap s first next m
     gives_map e m gives is_last has =
         let a = s.left first in
         let b = ahead demo.pending (s.left now) in
@@ -133,21 +133,21 @@ module _ {S : Type 0} (s : sources.Ghosts S) where
             inr (cut_end_after start demo.reading (s.left first) (ahead demo.pending (s.left now)) (ahead demo'.pending (s.left next)) on.events on.reads on.is_open.not_over cut, at)
 
     -- the reader stopped
-    pub gives_stop : (d : DemoStop) → ReaderStops s demo demo' now next d → GivesStop s first next d
+    pub gives_stop : (d : DemoStop) → IsStoppedBy s demo demo' now next d → GivesStop s first next d
     gives_stop (demo_stop.Refused line rule_fault rule) stops =
         let why : LineRefusal = record { line = line; fault = rule_fault; rule = rule } in
         let b = ahead demo.pending (s.left now) in
         record {
           faulty = continues demo.reading (s.left first) b on.events (λ bytes. fault bytes ≡ Some why) on.reads
-              (λ bytes rest is so. so.fault_is ∙ (subst (λ o. IfSome o (EndsAt demo.reading why)) is (stops.refused on.is_open)).fault);
+              (λ bytes rest is so. so.fault_is ∙ (subst (λ o. IfSome o (EndsAt demo.reading why)) is (stops.refused.refused on.is_open)).fault);
           read = refusal_on start s.last first now next demo.reading (s.left first) b (s.left next) on.events line demo.pending demo'.pending (s.ended next ≡ s.ended now)
-              (s.ended next ≡ s.ended first) (s.ended next ≡ true) on.reads on.needed (λ same. same ∙ on.same_end) (stops.taken on.is_open);
-          reads = stops.uncounted_refusal ∙ on.same;
+              (s.ended next ≡ s.ended first) (s.ended next ≡ true) on.reads on.needed (λ same. same ∙ on.same_end) (stops.refused.taken on.is_open);
+          reads = stops.refused.uncounted ∙ on.same;
         }
     gives_stop demo_stop.ReadFault stops = record {
-      same_end = stops.no_end ∙ on.same_end;
-      cause = subst (λ (n : ℕ). HasRisen n (s.faults next)) on.same (stops.cause on.is_open);
+      same_end = stops.read_fault.no_end ∙ on.same_end;
+      cause = subst (λ (n : ℕ). HasRisen n (s.faults next)) on.same (stops.read_fault.cause on.is_open);
       later = subst (λ (n : ℕ). n ≤ s.faults next) on.same stops.later;
-      fails = λ sure. stops.sure on.is_open (on.keeps sure);
+      fails = λ sure. stops.read_fault.sure on.is_open (on.keeps sure);
     }
-    gives_stop demo_stop.NoMemory stops = record { reads = stops.uncounted_memory ∙ on.same }
+    gives_stop demo_stop.NoMemory stops = record { reads = stops.memory.uncounted ∙ on.same }

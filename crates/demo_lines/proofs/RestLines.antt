@@ -118,3 +118,7 @@ module _ {S : Type 0} (last : S → ℕ) (ended : S → Bool) (first before afte
 -- where nothing was taken
 pub none_taken : (a : Option (List ℕ)) (P Q : Type 0) → P → TakesLineAtMost a a P Q
 none_taken a P Q p = record { line = []; feed = []; consumed = Consumes-nil a; one_line = All-nil (λ b. (b == 10) ≡ false); fits = omega arith; ends = inl (inl refl, p) }
+
+-- and where nothing is ahead
+pub none_at_end : (a : Option (List ℕ)) → IsAtEnd a → IfSome a HasNoRestLine
+none_at_end a end = no_line_feed a a [] (record { consumed = Consumes-nil a; one_line = All-nil (λ b. (b == 10) ≡ false) }) end

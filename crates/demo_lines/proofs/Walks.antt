@@ -1,5 +1,5 @@
 -- A reader's way over lines that give no event, and where it ends.
-use Rattle.std.proofs.Common.{◌≡◌, ℕ, ◌≤◌, ◌<◌, Bool, true, false, List, [], ◌∷◌, ◌⊎◌, inl, inr, Option, Some, None, Result, Ok, Err, IfSome, IfOk, IfErr, OnOk, cond, refl, sym, ap, ◌∙◌, subst, arith}
+use Rattle.std.proofs.Common.{◌≡◌, ℕ, ◌≤◌, ◌<◌, Bool, true, false, List, [], ◌∷◌, inl, inr, Option, Some, None, IfSome, cond, refl, sym, ap, ◌∙◌, subst, arith}
 use Rattle.edge_io.specs.Lines.{GivesLine, GivesLastPart}
 use Rattle.demo_lines.specs.declared.line.Line.{Line}
 use Rattle.demo_lines.specs.declared.line.Line.TheVariants.{OfMap, Frame, From, End}
@@ -15,7 +15,7 @@ use Rattle.demo_lines.specs.Recording.{next, after_test, event_of, events_of_tes
 use Rattle.demo_lines.specs.Said.{line_said}
 use Rattle.demo_lines.specs.Bytes.{LineRefusal, refusal}
 use Rattle.demo_lines.specs.Readings.{IsReading}
-use Rattle.demo_lines.specs.Reads.{Reads, ReadsQuietly, Refuses, EndsAt, IsQuiet, IsRefusedAt, IsRefusedLast, TakesCutEnd, OnRefused, OnNoMemory, stage_after}
+use Rattle.demo_lines.specs.Reads.{Reads, ReadsQuietly, Refuses, EndsAt, IsQuiet, IsRefusedAt, IsRefusedLast, TakesCutEnd, OnRefused, OnReadFault, OnNoMemory, stage_after}
 use Rattle.demo_lines.proofs.Consuming.{ReadsWhole, whole-line, quiet-line, reads-whole, Reads-cut, takes_cut_end, Refuses-line, Refuses-end, refused_by_line, refused_by_end, refused_by_cut_end}
 use Rattle.demo_lines.proofs.Ends.{next-counts}
 use Rattle.demo_lines.proofs.OnePass.{next-short, events-short}
@@ -68,6 +68,11 @@ pub on_refused : (stop : DemoStop) (P Q : LineRefusal → Type 0) → ((why : Li
 on_refused (stops.Refused line fault rule) P Q f p = f _ p
 on_refused stops.ReadFault P Q f p = tt
 on_refused stops.NoMemory P Q f p = tt
+
+pub on_read_fault : (stop : DemoStop) (P : Type 0) → OnReadFault stop ⊥ → OnReadFault stop P
+on_read_fault (stops.Refused line fault rule) P none = tt
+on_read_fault stops.ReadFault P none = absurd none
+on_read_fault stops.NoMemory P none = tt
 
 pub on_no_memory : (stop : DemoStop) (P Q : Type 0) → (P → Q) → OnNoMemory stop P → OnNoMemory stop Q
 on_no_memory (stops.Refused line fault rule) P Q f p = tt
@@ -161,11 +166,6 @@ goes_on-quiet s t line going is quiet taken =
 
 -- ---- what the input ended with
 
-pub last_event : (result : Result Event DemoStop) (r s t : Reading) (a b c : Option (List ℕ)) (line pending : List ℕ) → Walks r s a b → GivesLastPart b c line pending
-    → OnOk result (is_end line ≡ true) → OnOk result (t ≡ next s line) → IfOk result (λ e. events_of_line s line ≡ e ∷ []) → IfOk result (λ e. Reads r t a c (e ∷ []))
-last_event (Ok e) r s t a b c line pending walks gives end is given = walk_cut r s t a b c line pending e walks gives end is given
-last_event (Err stop) r s t a b c line pending walks gives end is given = tt
-
 -- an end gives no event but the recording's end
 end_event-by : (over : Bool) (fault : Option LineFault) (line : Option Line) (e : Event) → line ≡ Some End → cond over [] (events_of_test fault line) ≡ e ∷ []
     → e ≡ events.End
@@ -176,31 +176,14 @@ end_event-by false None line e is given = sym (one_event events.End e (ap event_
 pub end_event : (s : Reading) (line : List ℕ) (e : Event) → is_end line ≡ true → events_of_line s line ≡ e ∷ [] → e ≡ events.End
 end_event s line e end given = end_event-by (is_over s.stage) (fault_of s false line) (line_in line) e (end_says line end) given
 
-pub last_needed : (result : Result Event DemoStop) (r s : Reading) (a b c : Option (List ℕ)) (line pending : List ℕ) (P Q : Type 0) → Walks r s a b → GivesLastPart b c line pending
-    → OnOk result (is_end line ≡ true) → IfOk result (λ e. events_of_line s line ≡ e ∷ []) → Q → IfOk result (λ e. P ⊎ ((e ≡ events.End) × TakesCutEnd a c × Q))
-last_needed (Ok e) r s a b c line pending P Q walks gives end given q = inr (end_event s line e end given, walk_takes_cut r s a b c line pending walks gives end, q)
-last_needed (Err stop) r s a b c line pending P Q walks gives end given q = tt
-
-refused_last : (r s t : Reading) (a b c : Option (List ℕ)) (line pending : List ℕ) (why : LineRefusal) → Walks r s a b → GivesLastPart b c line pending
+pub refused_last : (r s t : Reading) (a b c : Option (List ℕ)) (line pending : List ℕ) (why : LineRefusal) → Walks r s a b → GivesLastPart b c line pending
     → IsRefusedLast s t line why → IfSome a (EndsAt r why)
 refused_last r s t a b c line pending why walks gives (inl at) = walk_cut_refused_at r s t a b c line pending why walks gives at.0 at.1
 refused_last r s t a b c line pending why walks gives (inr at) =
     subst (λ w. IfSome a (EndsAt r w)) (sym at.1) (refused_by_end r s a b c line pending walks.reads gives walks.going at.0)
 
-taken_last : (r s t : Reading) (a b c : Option (List ℕ)) (line pending : List ℕ) (why : LineRefusal) (P Q : Type 0) → Walks r s a b → GivesLastPart b c line pending
+pub taken_last : (r s t : Reading) (a b c : Option (List ℕ)) (line pending : List ℕ) (why : LineRefusal) (P Q : Type 0) → Walks r s a b → GivesLastPart b c line pending
     → IsRefusedLast s t line why → Q → Refuses r a c why.line P Q
 taken_last r s t a b c line pending why P Q walks gives (inl at) q = walk_cut_taken_at r s t a b c line pending why P Q walks gives at.1 q
 taken_last r s t a b c line pending why P Q walks gives (inr at) q =
     subst (λ k. Refuses r a c k P Q) (ap (λ (w : LineRefusal). w.line) (sym at.1)) (Refuses-end r s a b c line pending P Q walks.reads walks.going gives q)
-
-pub last_refused : (result : Result Event DemoStop) (r s t : Reading) (a b c : Option (List ℕ)) (line pending : List ℕ) → Walks r s a b → GivesLastPart b c line pending
-    → IfErr result (λ stop. OnRefused stop (IsRefusedLast s t line)) → IfErr result (λ stop. OnRefused stop (λ why. IfSome a (EndsAt r why)))
-last_refused (Ok e) r s t a b c line pending walks gives at = tt
-last_refused (Err stop) r s t a b c line pending walks gives at =
-    on_refused stop (IsRefusedLast s t line) (λ why. IfSome a (EndsAt r why)) (λ why is. refused_last r s t a b c line pending why walks gives is) at
-
-pub last_taken : (result : Result Event DemoStop) (r s t : Reading) (a b c : Option (List ℕ)) (line pending : List ℕ) (P Q : Type 0) → Walks r s a b → GivesLastPart b c line pending
-    → IfErr result (λ stop. OnRefused stop (IsRefusedLast s t line)) → Q → IfErr result (λ stop. OnRefused stop (λ why. Refuses r a c why.line P Q))
-last_taken (Ok e) r s t a b c line pending P Q walks gives at q = tt
-last_taken (Err stop) r s t a b c line pending P Q walks gives at q =
-    on_refused stop (IsRefusedLast s t line) (λ why. Refuses r a c why.line P Q) (λ why is. taken_last r s t a b c line pending why P Q walks gives is q) at

@@ -18,6 +18,7 @@ pub mod Readings
 pub mod Spelling
 pub mod InTurn
 pub mod Reads
+pub mod Outcomes
 pub mod Rest
 pub mod Consumed
 pub mod Laws

@@ -1,10 +1,15 @@
 -- What follows a recording, line by line. A line feed is the byte 10.
-use Rattle.std.specs.Prelude.{◌≡◌, ◌⊎◌, ℕ, ◌+◌, ◌≤◌, true, List, [], ◌∷◌, ◌++◌, length, Option, None}
+use Rattle.std.specs.Prelude.{◌≡◌, ◌⊎◌, ℕ, ◌+◌, ◌≤◌, true, false, List, [], ◌∷◌, ◌++◌, length, Option, Some, None, IfSome}
 use Rattle.std.specs.Io.KnownBytes.{Consumes, IsAtEnd}
+use Rattle.edge_io.specs.declared.source.Source as sources
 use Rattle.edge_io.specs.declared.line_reader.TheConstants.{LONGEST}
-use Rattle.edge_io.specs.Lines.{HasNoLineFeed}
+use Rattle.edge_io.specs.Counts.{HasRisen}
+use Rattle.edge_io.specs.Lines.{HasNoLineFeed, HasNotReadAhead}
+use Rattle.demo_lines.specs.declared.demo_stop.DemoStop.{DemoStop}
+use Rattle.demo_lines.specs.declared.demo_stop.DemoStop.TheVariants.{ReadFault}
 use Rattle.demo_lines.specs.declared.rest.TheConstants.{LONGEST_REST}
 use Rattle.demo_lines.specs.Reads.{DemoReaderView}
+use Rattle.demo_lines.specs.Outcomes.{ahead_of, IsNeeded}
 
 -- no read has failed, and where the reader was told that no line follows, nothing is left ahead
 pub record HasRest (demo : DemoReaderView) (ahead : Option (List ℕ)) : Type 0 where
@@ -32,3 +37,32 @@ pub record TakesLineAtMost (old new : Option (List ℕ)) (P Q : Type 0) : Type 0
   pub one_line : HasNoLineFeed line
   pub fits : length line ≤ LONGEST_REST + LONGEST + 1
   pub ends : (((feed ≡ []) ⊎ (feed ≡ 10 ∷ [])) × P) ⊎ ((feed ≡ []) × IsAtEnd new × Q)
+
+-- Only a reader that isn't cut asks the source.
+module _ {S : Type 0} (s : sources.Ghosts S) where
+  -- a line was given
+  pub record GivesNextLine (old new : DemoReaderView) (source source' : S) (given : List ℕ) : Type 0 where
+    pub line : GivesRestLine (ahead_of s old source) (ahead_of s new source') given
+    pub needed : HasNotReadAhead source source' (s.last source') old.pending new.pending
+    pub before_end : (old.cut ≡ false) × (s.ended source' ≡ s.ended source)
+    pub uncounted : s.faults source' ≡ s.faults source
+    pub cut : new.cut ≡ false
+    pub ok : new.stop ≡ None
+
+  -- there is no line
+  pub record GivesNoLine (old new : DemoReaderView) (source source' : S) : Type 0 where
+    pub none : HasRest old (ahead_of s old source) → IfSome (ahead_of s old source) HasNoRestLine
+    pub taken : TakesLineAtMost (ahead_of s old source) (ahead_of s new source') (IsNeeded s old new source source')
+        (s.ended source' ≡ true)
+    pub uncounted : s.faults source' ≡ s.faults source
+    pub cut : new.cut ≡ true
+    pub ok : new.stop ≡ None
+
+  -- the reader stopped, since a read failed in this call or before, and keeps that
+  pub record FailsToGiveLine (old new : DemoReaderView) (source source' : S) (stop : DemoStop) : Type 0 where
+    pub read_fault : old.stop ≡ None → stop ≡ ReadFault
+    pub cause : old.stop ≡ None → HasRisen (s.faults source) (s.faults source')
+    pub sure : old.stop ≡ None → s.never_fails source → ⊥
+    pub no_end : old.stop ≡ None → (old.cut ≡ false) × (s.ended source' ≡ s.ended source)
+    pub later : s.faults source ≤ s.faults source'
+    pub err : new.stop ≡ Some stop

@@ -21,6 +21,8 @@ mod event;
 mod laws;
 mod line;
 mod line_fault;
+mod next_event;
+mod one_line;
 mod packet;
 mod reading;
 mod rest;

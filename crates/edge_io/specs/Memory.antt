@@ -1,5 +1,6 @@
 -- What a source and a sink in memory are seen as.
-use Rattle.std.specs.Prelude.{ℕ, ◌-◌, ◌<◌, ◌++◌, Bool, ◌==◌, ◌&&◌, ◌||◌, nat_lt, List, All, length, drop, min}
+use Rattle.std.specs.Prelude.{◌≡◌, ℕ, ◌-◌, ◌≤◌, ◌<◌, ◌↔◌, ◌++◌, Bool, ◌==◌, ◌&&◌, ◌||◌, nat_lt, List, All, Contains, length, take, drop, min}
+use Rattle.std.specs.Prelude.{Result, IsErr, IfOk, OnErr}
 use Rattle.edge_io.specs.Counts.{one_more}
 
 -- a source in memory: the bytes that are left, the most that a read gives, the numbers of the calls that fail, how many
@@ -42,6 +43,14 @@ after_failed_read source = record {
   ended = source.ended;
 }
 
+-- a read with a buffer of this length gave this: it fails at the calls that are chosen, and else gives what is left, as
+-- far as the buffer and the most that a read gives allow
+pub record IsReadOf {E : Type 0} (old new : MemSourceView) (room : ℕ) (result : Result ℕ E) : Type 0 where
+  pub fails : IsErr result ↔ Contains old.fails old.calls
+  pub count : IfOk result (λ n. n ≡ read_count old room)
+  pub ok : IfOk result (λ n. new ≡ after_read old room n)
+  pub err : OnErr result (new ≡ after_failed_read old)
+
 -- no call from here on fails
 abbrev pub HasNoFailingCall : MemSourceView → Type 0
 HasNoFailingCall source = All (λ call. call < source.calls) source.fails
@@ -79,3 +88,11 @@ after_failed_write sink = record {
   most = sink.most;
   faults = one_more sink.faults;
 }
+
+-- a write of this piece gave this: it fails where there is no room, and else takes the front of the piece, as far as the
+-- room and the most that a write takes allow
+pub record IsWriteOf {E : Type 0} (old new : MemSinkView) (piece : List ℕ) (result : Result ℕ E) : Type 0 where
+  pub full : IsErr result ↔ ((0 < length piece) × (old.room ≤ length old.taken))
+  pub count : IfOk result (λ n. n ≡ write_count old (length piece))
+  pub ok : IfOk result (λ n. new ≡ after_write old (take n piece))
+  pub err : OnErr result (new ≡ after_failed_write old)

@@ -2,7 +2,7 @@ ghost use Rattle.std.specs.Prelude.{◌≡◌, ℕ, ◌+◌, ◌<◌, ◌≤◌,
 ghost use Rattle.std.specs.Prelude.{IsTrue, length, drop};
 ghost use Rattle.std.specs.Bool.{OnFalse, OnTrue};
 ghost use Rattle.std.specs.Io.KnownBytes.{Keeps, IsAtEnd};
-ghost use Rattle.edge_io.specs.Counts.{HasRisen};
+ghost use Rattle.edge_io.specs.Counts.{CountsFaults};
 ghost use Rattle.edge_io.specs.Lines.{ahead, HasNoLineFeed, AreBytes, GivesLine, GivesLongFront, GivesFront};
 ghost use Rattle.edge_io.specs.Lines.{GivesLastPart, HasNotReadAhead, OnLine, OnWhole, OnLong, OnEnded, MovesFront};
 
@@ -101,9 +101,7 @@ impl LineReader {
         ensures before_end { IfOk result (λ next. OnLine next (S.ended source.new ≡ S.ended source.old)) }
         ensures no_end { OnErr result (S.ended source.new ≡ S.ended source.old) }
 
-        ensures later { S.faults source.old ≤ S.faults source.new }
-        ensures cause { OnErr result (HasRisen (S.faults source.old) (S.faults source.new)) }
-        ensures uncounted { OnOk result (S.faults source.new ≡ S.faults source.old) }
+        ensures faults { CountsFaults (S.faults source.old) (S.faults source.new) result }
         ensures sure { S.never_fails source.old → IsOk result }
         ensures keeps { S.never_fails source.old → S.never_fails source.new }
     {
@@ -131,9 +129,7 @@ impl LineReader {
         ensures before_end { IfOk result (λ is. OnTrue is (S.ended source.new ≡ S.ended source.old)) }
         ensures no_end { OnErr result (S.ended source.new ≡ S.ended source.old) }
 
-        ensures later { S.faults source.old ≤ S.faults source.new }
-        ensures cause { OnErr result (HasRisen (S.faults source.old) (S.faults source.new)) }
-        ensures uncounted { OnOk result (S.faults source.new ≡ S.faults source.old) }
+        ensures faults { CountsFaults (S.faults source.old) (S.faults source.new) result }
         ensures sure { S.never_fails source.old → IsOk result }
         ensures keeps { S.never_fails source.old → S.never_fails source.new }
     {

@@ -2,8 +2,8 @@ ghost use Rattle.std.specs.Prelude.{◌≡◌, ◌<◌, ◌+◌, ◌-◌, ◌^�
 ghost use Rattle.std.specs.Prelude.{OnErr, length, take};
 ghost use Rattle.std.specs.Io.{WritesAtMost};
 ghost use Rattle.std.specs.Io.KnownBytes.{WriteAppends};
-ghost use Rattle.edge_io.specs.Counts.{HasRisen};
-ghost use Rattle.edge_io.specs.Memory.{MemSinkView, room_left, write_count, after_write, after_failed_write};
+ghost use Rattle.edge_io.specs.Counts.{CountsFaults};
+ghost use Rattle.edge_io.specs.Memory.{room_left, IsWriteOf};
 
 use crate::failed::Failed;
 use crate::sink::Sink;
@@ -69,18 +69,13 @@ impl Sink for MemSink {
         ensures progress { IfOk result (λ n. 0 < length piece.now → 1 ≤ n) }
         ensures empty { length piece.now ≡ 0 → result ≡ Ok 0 }
         ensures bytes { WriteAppends (Some self.old.taken) (Some self.new.taken) result piece.now }
-        ensures later { self.old.faults ≤ self.new.faults }
+        ensures faults { CountsFaults self.old.faults self.new.faults result }
         ensures limit { self.new.faults ≤ 2 ^ 64 - 1 }
-        ensures cause { OnErr result (HasRisen self.old.faults self.new.faults) }
-        ensures uncounted { OnOk result (self.new.faults ≡ self.old.faults) }
         ensures sure { 0 < room_left self.old → IsOk result }
         ensures room { IfOk result (λ n. room_left self.old ≤ room_left self.new + n) }
 
         // Where a write fails, and what each takes and leaves.
-        ensures full { IsErr result ↔ ((0 < length piece.now) × (self.old.room ≤ length self.old.taken)) }
-        ensures count { IfOk result (λ n. n ≡ write_count self.old (length piece.now)) }
-        ensures ok { IfOk result (λ n. self.new ≡ after_write self.old (take n piece.now)) }
-        ensures err { OnErr result (self.new ≡ after_failed_write self.old) }
+        ensures write { IsWriteOf self.old self.new piece.now result }
     {
         let free = self.room - self.bytes.len();
         if free == 0 && !piece.is_empty() {

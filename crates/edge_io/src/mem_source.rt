@@ -2,9 +2,9 @@ ghost use Rattle.std.specs.Prelude.{◌≡◌, ◌-◌, ◌^◌, ◌≤◌, ◌�
 ghost use Rattle.std.specs.Prelude.{OnErr, Contains, length, take, min};
 ghost use Rattle.std.specs.Io.{ReadsAtMost};
 ghost use Rattle.std.specs.Io.KnownBytes.{ReadConsumes};
-ghost use Rattle.edge_io.specs.Counts.{HasRisen};
+ghost use Rattle.edge_io.specs.Counts.{CountsFaults};
 ghost use Rattle.edge_io.specs.Ends.{is_end_of_input};
-ghost use Rattle.edge_io.specs.Memory.{MemSourceView, read_count, after_read, after_failed_read, HasNoFailingCall};
+ghost use Rattle.edge_io.specs.Memory.{IsReadOf, HasNoFailingCall};
 
 use crate::failed::Failed;
 use crate::source::Source;
@@ -85,18 +85,13 @@ impl Source for MemSource<'_> {
         ensures last_kept { OnErr result (self.new.last ≡ self.old.last) }
         ensures end { self.new.ended ≡ (self.old.ended || is_end_of_input result (length buf.old)) }
         ensures after_end { self.old.ended ≡ true → IfOk result (λ n. n ≡ 0) }
-        ensures later { self.old.faults ≤ self.new.faults }
+        ensures faults { CountsFaults self.old.faults self.new.faults result }
         ensures limit { self.new.faults ≤ 2 ^ 64 - 1 }
-        ensures cause { OnErr result (HasRisen self.old.faults self.new.faults) }
-        ensures uncounted { OnOk result (self.new.faults ≡ self.old.faults) }
         ensures sure { HasNoFailingCall self.old → IsOk result }
         ensures keeps { HasNoFailingCall self.old → HasNoFailingCall self.new }
 
         // Which calls fail, and what each call gives and leaves.
-        ensures fails { IsErr result ↔ Contains self.old.fails self.old.calls }
-        ensures count { IfOk result (λ n. n ≡ read_count self.old (length buf.old)) }
-        ensures ok { IfOk result (λ n. self.new ≡ after_read self.old (length buf.old) n) }
-        ensures err { OnErr result (self.new ≡ after_failed_read self.old) }
+        ensures read { IsReadOf self.old self.new (length buf.old) result }
     {
         let call = self.calls;
         self.calls = call.saturating_add(1);

@@ -1,7 +1,7 @@
 ghost use Rattle.std.specs.Prelude.{◌≡◌, ℕ, ◌+◌, ◌-◌, ◌^◌, ◌<◌, ◌≤◌, List, Option, Ok, IsOk, IfOk, OnOk, OnErr, length};
 ghost use Rattle.std.specs.Io.{WritesAtMost};
 ghost use Rattle.std.specs.Io.KnownBytes.{WriteAppends};
-ghost use Rattle.edge_io.specs.Counts.{HasRisen};
+ghost use Rattle.edge_io.specs.Counts.{CountsFaults};
 
 use crate::failed::Failed;
 
@@ -29,10 +29,8 @@ pub trait Sink {
         ensures empty { length piece.now ≡ 0 → result ≡ Ok 0 }
         ensures bytes { WriteAppends (taken self.old) (taken self.new) result piece.now }
 
-        ensures later { faults self.old ≤ faults self.new }
+        ensures faults { CountsFaults (faults self.old) (faults self.new) result }
         ensures limit { faults self.new ≤ 2 ^ 64 - 1 }
-        ensures cause { OnErr result (HasRisen (faults self.old) (faults self.new)) }
-        ensures uncounted { OnOk result (faults self.new ≡ faults self.old) }
         ensures sure { 0 < room self.old → IsOk result }
         ensures room { IfOk result (λ n. room self.old ≤ room self.new + n) };
 }

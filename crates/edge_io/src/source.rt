@@ -2,7 +2,7 @@ ghost use Rattle.std.specs.Prelude.{◌≡◌, ℕ, ◌-◌, ◌^◌, ◌≤◌,
 ghost use Rattle.std.specs.Prelude.{length};
 ghost use Rattle.std.specs.Io.{ReadsAtMost};
 ghost use Rattle.std.specs.Io.KnownBytes.{ReadConsumes};
-ghost use Rattle.edge_io.specs.Counts.{HasRisen};
+ghost use Rattle.edge_io.specs.Counts.{CountsFaults};
 ghost use Rattle.edge_io.specs.Ends.{is_end_of_input};
 
 use crate::failed::Failed;
@@ -43,10 +43,8 @@ pub trait Source {
         ensures end { ended self.new ≡ (ended self.old || is_end_of_input result (length buf.old)) }
         ensures after_end { ended self.old ≡ true → IfOk result (λ n. n ≡ 0) }
 
-        ensures later { faults self.old ≤ faults self.new }
+        ensures faults { CountsFaults (faults self.old) (faults self.new) result }
         ensures limit { faults self.new ≤ 2 ^ 64 - 1 }
-        ensures cause { OnErr result (HasRisen (faults self.old) (faults self.new)) }
-        ensures uncounted { OnOk result (faults self.new ≡ faults self.old) }
         ensures sure { never_fails self.old → IsOk result }
         ensures keeps { never_fails self.old → never_fails self.new };
 }

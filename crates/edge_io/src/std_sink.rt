@@ -1,7 +1,7 @@
 ghost use Rattle.std.specs.Prelude.{◌≡◌, ◌<◌, ◌-◌, ◌^◌, ◌≤◌, None, Ok, IfOk, OnOk, OnErr, length};
 ghost use Rattle.std.specs.Io.{WritesAtMost};
 ghost use Rattle.std.specs.Io.KnownBytes.{WriteAppends};
-ghost use Rattle.edge_io.specs.Counts.{HasRisen, one_more};
+ghost use Rattle.edge_io.specs.Counts.{CountsFaults, one_more};
 
 use crate::failed::Failed;
 use crate::sink::Sink;
@@ -52,15 +52,13 @@ impl<W: Write> Sink for StdSink<W> {
         ensures progress { IfOk result (λ n. 0 < length piece.now → 1 ≤ n) }
         ensures empty { length piece.now ≡ 0 → result ≡ Ok 0 }
         ensures bytes { WriteAppends None None result piece.now }
-        ensures later { self.old.errors ≤ self.new.errors }
+        ensures faults { CountsFaults self.old.errors self.new.errors result }
         ensures limit { self.new.errors ≤ 2 ^ 64 - 1 }
-        ensures cause { OnErr result (HasRisen self.old.errors self.new.errors) }
 
         // The writer took what is answered, where the writer knows its bytes.
         ensures passed { WriteAppends (W.contents self.old.inner) (W.contents self.new.inner) result piece.now }
 
-        // Each `Failed` is counted, once, and nothing else is.
-        ensures uncounted { OnOk result (self.new.errors ≡ self.old.errors) }
+        // Each `Failed` is counted once.
         ensures counted { OnErr result (self.new.errors ≡ one_more self.old.errors) }
     {
         let StdSink { inner, errors } = self;

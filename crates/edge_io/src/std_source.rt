@@ -2,7 +2,7 @@ ghost use Rattle.std.specs.Prelude.{◌≡◌, ◌-◌, ◌^◌, ◌≤◌, ◌|
 ghost use Rattle.std.specs.Prelude.{length};
 ghost use Rattle.std.specs.Io.{ReadsAtMost};
 ghost use Rattle.std.specs.Io.KnownBytes.{ReadConsumes};
-ghost use Rattle.edge_io.specs.Counts.{HasRisen, one_more};
+ghost use Rattle.edge_io.specs.Counts.{CountsFaults, one_more};
 ghost use Rattle.edge_io.specs.Ends.{is_end_of_input};
 ghost use Rattle.edge_io.specs.Adapters.{after_end_read};
 
@@ -69,9 +69,8 @@ impl<R: Read> Source for StdSource<R> {
         ensures last_kept { OnErr result (self.new.last ≡ self.old.last) }
         ensures end { self.new.ended ≡ (self.old.ended || is_end_of_input result (length buf.old)) }
         ensures after_end { self.old.ended ≡ true → IfOk result (λ n. n ≡ 0) }
-        ensures later { self.old.errors ≤ self.new.errors }
+        ensures faults { CountsFaults self.old.errors self.new.errors result }
         ensures limit { self.new.errors ≤ 2 ^ 64 - 1 }
-        ensures cause { OnErr result (HasRisen self.old.errors self.new.errors) }
 
         // What the reader gave is passed on, where the reader knows its bytes.
         ensures passed { self.old.ended ≡ false →
@@ -80,8 +79,7 @@ impl<R: Read> Source for StdSource<R> {
         // After its end the reader isn't asked.
         ensures unasked { self.old.ended ≡ true → (result ≡ Ok 0) × (self.new ≡ after_end_read self.old) }
 
-        // Each `Failed` is counted, once, and nothing else is.
-        ensures uncounted { OnOk result (self.new.errors ≡ self.old.errors) }
+        // Each `Failed` is counted once.
         ensures counted { OnErr result (self.new.errors ≡ one_more self.old.errors) }
     {
         if self.has_ended {

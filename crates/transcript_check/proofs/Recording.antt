@@ -14,7 +14,8 @@ use Rattle.demo_lines.specs.declared.demo_stop.DemoStop.TheVariants as demo_stop
 use Rattle.demo_lines.specs.Known.{Reading, start_within, is_map_whole, is_over}
 use Rattle.demo_lines.specs.Bytes.{LineRefusal, fault_within}
 use Rattle.demo_lines.specs.Readings.{IsReading}
-use Rattle.demo_lines.specs.Reads.{DemoReaderView, fresh_within, IsOpen, Reads, Refuses, TakesCutEnd, EndsAt, KeepsMap, stage_after, OnRefused, OnReadFault, OnNoMemory}
+use Rattle.demo_lines.specs.Reads.{DemoReaderView, fresh_within, IsOpen, Reads, TakesCutEnd, EndsAt, KeepsMap, stage_after}
+use Rattle.demo_lines.specs.Outcomes.{GivesEvent, IsStoppedBy}
 use Rattle.demo_lines.proofs.Machines.{run_of-append}
 use Rattle.demo_lines.proofs.Joins.{Reads-trans}
 use Rattle.demo_lines.proofs.Consumed.{cut_end_after, refusal_on}
@@ -59,30 +60,6 @@ abbrev IsAsNeeded : {S : Type 0} → sources.Ghosts S → (old new : DemoReaderV
 IsAsNeeded s old new source source' e =
     (HasNotReadAhead source source' (s.last source') old.pending new.pending × (s.ended source' ≡ s.ended source))
     ⊎ ((e ≡ End) × TakesCutEnd (ahead_of s old source) (ahead_of s new source') × (s.ended source' ≡ true))
-
--- what a call of the reader says where it gives an event
-pub record ReaderGives {S : Type 0} (s : sources.Ghosts S) (old new : DemoReaderView) (source source' : S) (e : Event) : Type 0 where
-  pub event : IsOpen old → Reads old.reading new.reading (ahead_of s old source) (ahead_of s new source') (e ∷ [])
-  pub stage : new.reading.stage ≡ stage_after e
-  pub map : KeepsMap old.reading new.reading
-  pub uncounted : s.faults source' ≡ s.faults source
-  pub keeps : s.never_fails source → s.never_fails source'
-  pub ok : new.stop ≡ None
-  pub cut : IsOpen old → TellsEnd s old new source source' e
-  pub needed : IsOpen old → IsAsNeeded s old new source source' e
-  pub holds : IsReading new.reading
-
--- and where it stops
-pub record ReaderStops {S : Type 0} (s : sources.Ghosts S) (old new : DemoReaderView) (source source' : S) (d : DemoStop) : Type 0 where
-  pub refused : IsOpen old → OnRefused d (λ why. IfSome (ahead_of s old source) (EndsAt old.reading why))
-  pub taken : IsOpen old → OnRefused d (λ why. Refuses old.reading (ahead_of s old source) (ahead_of s new source') why.line
-      (HasNotReadAhead source source' (s.last source') old.pending new.pending × (s.ended source' ≡ s.ended source)) (s.ended source' ≡ true))
-  pub cause : IsOpen old → OnReadFault d (HasRisen (s.faults source) (s.faults source'))
-  pub sure : IsOpen old → s.never_fails source → OnReadFault d ⊥
-  pub no_end : OnReadFault d (s.ended source' ≡ s.ended source)
-  pub later : s.faults source ≤ s.faults source'
-  pub uncounted_refusal : OnRefused d (λ _. s.faults source' ≡ s.faults source)
-  pub uncounted_memory : OnNoMemory d (s.faults source' ≡ s.faults source)
 
 module _ {S : Type 0} (s : sources.Ghosts S) (limit : ℕ) where
   -- what was read so far gave some events, which made these frames, and the recording goes on
@@ -138,7 +115,7 @@ module _ {S : Type 0} (s : sources.Ghosts S) (limit : ℕ) where
     ]
 
     -- an event was given, and it wasn't the end
-    pub goes_on : (e : Event) (frames' : Frames) → ReaderGives s demo demo' now next e → frames' ≡ collect frames e → is_last e ≡ false → ReadsOn first next demo' frames'
+    pub goes_on : (e : Event) (frames' : Frames) → GivesEvent s demo demo' now next e → frames' ≡ collect frames e → is_last e ≡ false → ReadsOn first next demo' frames'
     goes_on e frames' gives made going = record {
       events = on.events ++ e ∷ [];
       reads = Reads-trans (start_within limit) demo.reading demo'.reading (s.left first) (ahead_of s demo now) (ahead_of s demo' next) on.events (e ∷ [])
@@ -154,7 +131,7 @@ module _ {S : Type 0} (s : sources.Ghosts S) (limit : ℕ) where
     }
 
     -- the end was given
-    pub ends : (e : Event) (frames' : Frames) → ReaderGives s demo demo' now next e → frames' ≡ collect frames e → is_last e ≡ true → ReadsRecording s limit first next demo' frames'
+    pub ends : (e : Event) (frames' : Frames) → GivesEvent s demo demo' now next e → frames' ≡ collect frames e → is_last e ≡ true → ReadsRecording s limit first next demo' frames'
     ends e frames' gives made last = record {
       events = on.events ++ e ∷ [];
       reads = Reads-trans (start_within limit) demo.reading demo'.reading (s.left first) (ahead_of s demo now) (ahead_of s demo' next) on.events (e ∷ [])
@@ -186,20 +163,20 @@ module _ {S : Type 0} (s : sources.Ghosts S) (limit : ℕ) where
             inr (cut_end_after (start_within limit) demo.reading (s.left first) (ahead_of s demo now) (ahead_of s demo' next) on.events on.reads on.is_open.not_over cut, at)
 
     -- the reader stopped
-    pub stops : (d : DemoStop) → ReaderStops s demo demo' now next d → StopsChecking s limit first next d
+    pub stops : (d : DemoStop) → IsStoppedBy s demo demo' now next d → StopsChecking s limit first next d
     stops (demo_stop.Refused line rule_fault rule) given =
         let why : LineRefusal = record { line = line; fault = rule_fault; rule = rule } in
         record {
           faulty = continues (start_within limit) demo.reading (s.left first) (ahead_of s demo now) on.events (λ bytes. fault_within limit bytes ≡ Some why) on.reads
-              (λ bytes rest is so. so.fault_is ∙ (subst (λ o. IfSome o (EndsAt demo.reading why)) is (given.refused on.is_open)).fault);
+              (λ bytes rest is so. so.fault_is ∙ (subst (λ o. IfSome o (EndsAt demo.reading why)) is (given.refused.refused on.is_open)).fault);
           read = refusal_on (start_within limit) s.last first now next demo.reading (s.left first) (ahead_of s demo now) (s.left next) on.events line demo.pending demo'.pending (s.ended next ≡ s.ended now)
-              (s.ended next ≡ s.ended first) (s.ended next ≡ true) on.reads on.unread (λ same. same ∙ on.before_end) (given.taken on.is_open);
-          reads = given.uncounted_refusal ∙ on.uncounted;
+              (s.ended next ≡ s.ended first) (s.ended next ≡ true) on.reads on.unread (λ same. same ∙ on.before_end) (given.refused.taken on.is_open);
+          reads = given.refused.uncounted ∙ on.uncounted;
         }
     stops demo_stop.ReadFault given = record {
-      before_end = given.no_end ∙ on.before_end;
-      cause = subst (λ (n : ℕ). HasRisen n (s.faults next)) on.uncounted (given.cause on.is_open);
+      before_end = given.read_fault.no_end ∙ on.before_end;
+      cause = subst (λ (n : ℕ). HasRisen n (s.faults next)) on.uncounted (given.read_fault.cause on.is_open);
       later = subst (λ (n : ℕ). n ≤ s.faults next) on.uncounted given.later;
-      fails = λ sure. given.sure on.is_open (on.keeps sure);
+      fails = λ sure. given.read_fault.sure on.is_open (on.keeps sure);
     }
-    stops demo_stop.NoMemory given = record { reads = given.uncounted_memory ∙ on.uncounted }
+    stops demo_stop.NoMemory given = record { reads = given.memory.uncounted ∙ on.uncounted }

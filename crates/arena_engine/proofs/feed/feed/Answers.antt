@@ -14,40 +14,30 @@ returns-in-Err g c =
 pub returns-in-Err-next : goal.returns-in-Err-next
 returns-in-Err-next g c =
     rw (c.before_frames-in-Err-next.ensures.ended, c.into-in-Err-next.ensures)
-    (stopped_at_first g.S.Source g.K.Sink (feed_texts c.args.host.now.workers) (feed_at_first c.args.host.now.workers) c.args.source.now c.next.new.source c.args.sink.now _ (is_unfed c.before_frames-in-Err-next.result _ c.before_frames-in-Err-next.ensures.last c.before_frames-in-Err-next.ensures.order) c.in-Ok.demo c.next.new.self c.in-Err-next.stop c.in-Ok.ensures (record {
-      refused = c.in-Err-next.ensures.refused;
-      taken = c.in-Err-next.ensures.taken;
-      read_fault = c.in-Err-next.ensures.read_fault;
-      no_end = c.in-Err-next.ensures.no_end;
-      cause = c.in-Err-next.ensures.cause;
-      sure = c.in-Err-next.ensures.sure;
-      later = c.in-Err-next.ensures.later;
-      uncounted_refusal = c.in-Err-next.ensures.uncounted_refusal;
-      uncounted_memory = c.in-Err-next.ensures.uncounted_memory;
-    }))
+    (stopped_at_first g.S.Source g.K.Sink (feed_texts c.args.host.now.workers) (feed_at_first c.args.host.now.workers) c.args.source.now c.next.new.source c.args.sink.now _ (is_unfed c.before_frames-in-Err-next.result _ c.before_frames-in-Err-next.ensures.last c.before_frames-in-Err-next.ensures.order) c.in-Ok.demo c.next.new.self c.in-Err-next.stop c.in-Ok.ensures c.in-Err-next.ensures.stop)
 
 pub returns-in-Err-new : goal.returns-in-Err-new
 returns-in-Err-new g c =
     rw (c.before_frames-in-Err-new.ensures.ended, c.into-in-Err-new.ensures)
-    (no_memory_at_first g.S.Source g.K.Sink (feed_texts c.args.host.now.workers) (feed_at_first c.args.host.now.workers) c.args.source.now c.next.new.source c.args.sink.now _ (is_unfed c.before_frames-in-Err-new.result _ c.before_frames-in-Err-new.ensures.last c.before_frames-in-Err-new.ensures.order) c.in-Ok-next.ensures.uncounted)
+    (no_memory_at_first g.S.Source g.K.Sink (feed_texts c.args.host.now.workers) (feed_at_first c.args.host.now.workers) c.args.source.now c.next.new.source c.args.sink.now _ (is_unfed c.before_frames-in-Err-new.result _ c.before_frames-in-Err-new.ensures.last c.before_frames-in-Err-new.ensures.order) c.in-Ok-next.ensures.event.uncounted)
 
 pub feed_events-ended-requires-after_bounds : goal.feed_events-ended-requires-after_bounds
 feed_events-ended-requires-after_bounds g c κs within = record {
   first_source = c.args.source.now;
   first_sink = c.args.sink.now;
   is_next =
-      let given = c.in-Ok-next.ensures in
+      let given = c.in-Ok-next.ensures.event in
       first_is_next g.S.Source g.K.Sink c.args.host.now.workers c.args.source.now c.next.new.source c.args.sink.now c.in-Ok.demo c.next.new.self c.take_map.new.self c.unwrap-map.result c.in-Ok-new.game c.in-Ok-next.event
-      c.in-Ok.ensures c.take_map.ensures.rest (record { event = given.event; stage = given.stage; needed = given.needed; uncounted = given.uncounted; keeps = given.keeps; ok = given.ok; holds = given.holds })
+      c.in-Ok.ensures c.take_map.ensures.rest given
       (sym c.take_map.ensures.map ∙ c.unwrap-map.ensures) c.in-Ok-new.ensures.rules c.in-Ok-new.ensures.game;
 }
 
 pub returns : goal.returns
 returns g c =
-    let given = c.in-Ok-next.ensures in
+    let given = c.in-Ok-next.ensures.event in
     let is_next : IsFedNext g.S.Source g.K.Sink c.args.host.now.workers c.args.source.now c.next.new.source c.args.sink.now c.args.sink.now c.take_map.new.self c.in-Ok-new.game c.in-Ok-next.event =
     first_is_next g.S.Source g.K.Sink c.args.host.now.workers c.args.source.now c.next.new.source c.args.sink.now c.in-Ok.demo c.next.new.self c.take_map.new.self c.unwrap-map.result c.in-Ok-new.game c.in-Ok-next.event
-    c.in-Ok.ensures c.take_map.ensures.rest (record { event = given.event; stage = given.stage; needed = given.needed; uncounted = given.uncounted; keeps = given.keeps; ok = given.ok; holds = given.holds })
+    c.in-Ok.ensures c.take_map.ensures.rest given
     (sym c.take_map.ensures.map ∙ c.unwrap-map.ensures) c.in-Ok-new.ensures.rules c.in-Ok-new.ensures.game in
     ends_same g.S.Source g.K.Sink (feed_texts c.args.host.now.workers) c.args.source.now c.feed_events-ended.new.source c.args.sink.now c.feed_events-ended.new.sink _ _ _ _ c.with_fed_game.ensures.last c.with_fed_game.ensures.ended
     (c.feed_events-ended.ensures c.args.source.now c.args.sink.now is_next)

@@ -15,7 +15,7 @@ take-requires-after_bounds g c κs within = ready_next _ _ _ _ _ _ _ _ c.events.
 pub events-smaller : goal.events-smaller
 events-smaller g c =
     let going = sym c.is_end-is_last.ensures ∙ c.if-is_last.false in
-    c.in_ok-event.ensures.fewer (open_reader _ _ _ _ _ _ _ _ c.events.invariant.may going)
+    c.in_ok-event.ensures.event.fewer (open_reader _ _ _ _ _ _ _ _ c.events.invariant.may going)
 
 pub returns-in_err-take : goal.returns-in_err-take
 returns-in_err-take g c =
@@ -35,26 +35,16 @@ pub returns-in_err-event : goal.returns-in_err-event
 returns-in_err-event g c =
     let going = sym c.is_end-is_last.ensures ∙ c.if-is_last.false in
     let p = err_from_is_err_and c.from_residual-in_err-event.result c.from_residual-in_err-event.ensures.1 in
-    let stops = c.in_err-event.ensures in
+    let stops = c.in_err-event.ensures.stop in
     λ first_source first_sink begun.
     ends_same g.S.Source g.K.Sink (feed_texts c.args.host.now.workers) first_source c.next.new.source first_sink c.take.new.sink c.take.new.self.last c.take.new.self.last (Err (stop_of c.in_err-event.field-0.0)) c.from_residual-in_err-event.result refl (p.1 ∙ ap Err p.2)
     (reader_stopped g.S.Source g.K.Sink c.args.host.now.workers first_source c.events.source first_sink c.events.sink c.events.demo c.events.game c.events.event (c.events.invariant.each first_source first_sink begun)
-    c.take.new.sink c.take.new.self c.in_ok-take.ensures.next c.next.new.self c.next.new.source c.in_err-event.field-0.0 going (record {
-      refused = stops.refused;
-      taken = stops.taken;
-      read_fault = stops.read_fault;
-      no_end = stops.no_end;
-      cause = stops.cause;
-      sure = stops.sure;
-      later = stops.later;
-      uncounted_refusal = stops.uncounted_refusal;
-      uncounted_memory = stops.uncounted_memory;
-    }))
+    c.take.new.sink c.take.new.self c.in_ok-take.ensures.next c.next.new.self c.next.new.source c.in_err-event.field-0.0 going stops)
 
 pub events-preserved : goal.events-preserved
 events-preserved g c =
     let going = sym c.is_end-is_last.ensures ∙ c.if-is_last.false in
-    let given = c.in_ok-event.ensures in
+    let given = c.in_ok-event.ensures.event in
     goes_further g.S.Source g.K.Sink c.args.host.now.workers c.args.source.now c.events.source c.next.new.source c.args.sink.now c.events.sink c.take.new.sink c.args.demo.now c.events.demo c.next.new.self
     c.args.game.now c.events.game c.take.new.self c.args.first c.events.event c.in_ok-event.event c.events.invariant c.in_ok-take.ensures.next going
-    (record { event = given.event; stage = given.stage; needed = given.needed; uncounted = given.uncounted; keeps = given.keeps; ok = given.ok; holds = given.holds })
+    given

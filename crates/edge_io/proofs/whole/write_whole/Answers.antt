@@ -15,7 +15,7 @@ loop-rest-preserved g c =
     let written = c.loop-rest.invariant.written in
     record {
       written = IsWritten-more _ _ _ _ _ _ written c.in_ok-count.ensures.bytes;
-      uncounted = c.in_ok-count.ensures.uncounted ∙ c.loop-rest.invariant.uncounted;
+      uncounted = c.in_ok-count.ensures.faults.uncounted ∙ c.loop-rest.invariant.uncounted;
       room = omega (arith, c.in_ok-count.ensures.room, c.in_ok-count.ensures.bound, c.loop-rest.invariant.room);
       unmoved = λ none. absurd (omega (arith, ap length written.split, length-append written.front c.loop-rest.rest.now));
     }

@@ -3,7 +3,7 @@ use Rattle.edge_io.specs.Lines.{ahead, HasNotReadAhead}
 use Rattle.demo_lines.specs.Recording.{lines_left}
 use Rattle.demo_lines.proofs.Walks.{Walks}
 use Rattle.demo_lines.proofs.MapGiven.{MapSoFar}
-use Rattle.demo_lines.proofs.demo_reader.next_event.Given as goal
+use Rattle.demo_lines.proofs.next_event.next_event.Given as goal
 
 -- the lines so far gave no event, and no more was read than they needed
 abbrev pub invariant-loop-reading : goal.invariant-loop-reading

@@ -5,7 +5,7 @@ use Rattle.demo_lines.specs.Bytes.{refusal}
 use Rattle.demo_lines.specs.Recording.{event_of}
 use Rattle.demo_lines.specs.Said.{line_said, after_said}
 use Rattle.demo_lines.proofs.OnePass.{next-short, events-short, not_refused}
-use Rattle.demo_lines.proofs.demo_reader.take_line.Goals as goal
+use Rattle.demo_lines.proofs.one_line.take_line.Goals as goal
 
 pub returns-in-Refused-clause-refused : goal.returns-in-Refused-clause-refused
 returns-in-Refused-clause-refused c =
