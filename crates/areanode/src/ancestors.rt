@@ -18,7 +18,7 @@ fn path_to(depth: u8, start: usize) -> u64
 }
 
 /// The nodes of these leaves of a tree of this depth and all their ancestors, bit i for node i.
-pub fn visited(depth: u8, leaves: u32) -> u64
+pub fn visited_nodes(depth: u8, leaves: u32) -> u64
     requires { IsTreeDepth depth }
     ensures { result ≡ visited_of depth leaves }
 {

@@ -92,7 +92,7 @@ pub fn part_above(area: &Aabb) -> Aabb
     ensures { result ≡ cuts.part_above area.now }
 {
     let cut = cut_of(area);
-    Aabb::between(set_on(cut.axis, cut.dist, area.lo()), area.hi())
+    Aabb::from_corners(set_on(cut.axis, cut.dist, area.lo()), area.hi())
 }
 
 /// The part of an area below its cut.
@@ -100,7 +100,7 @@ pub fn part_below(area: &Aabb) -> Aabb
     ensures { result ≡ cuts.part_below area.now }
 {
     let cut = cut_of(area);
-    Aabb::between(area.lo(), set_on(cut.axis, cut.dist, area.hi()))
+    Aabb::from_corners(area.lo(), set_on(cut.axis, cut.dist, area.hi()))
 }
 
 /// Whether a box lies above a cut and doesn't touch it.

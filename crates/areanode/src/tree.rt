@@ -5,7 +5,7 @@ ghost use Rattle.areanode.specs.Trees as trees;
 ghost use Rattle.areanode.specs.Trees.{IsTreeDepth, leaves_in, inner_in, nodes_in, visited_of};
 ghost use Rattle.areanode.specs.Areas.{area_at, areas_of, IsAtLevel};
 
-use crate::ancestors::visited;
+use crate::ancestors::visited_nodes;
 use crate::cut::{
     cut_of, is_above, is_below, part_above, part_below, reaches_above, reaches_below,
 };
@@ -161,11 +161,11 @@ impl Tree {
 
     /// The nodes of these leaves and all their ancestors, bit i for node i. A box that touches a region with these
     /// leaves is linked at one of them.
-    pub fn visited(&self, leaves: u32) -> u64
+    pub fn visited_nodes(&self, leaves: u32) -> u64
         requires { leaves < 2 ^ leaves_in self.now.depth }
         ensures nodes { result ≡ visited_of self.now.depth leaves }
         ensures depth { IsTreeDepth self.now.depth }
     {
-        visited(self.depth, leaves)
+        visited_nodes(self.depth, leaves)
     }
 }

@@ -14,7 +14,7 @@ use Rattle.arena_map.specs.Maps.{MapView, IsMap, solids_of}
 use Rattle.trigger_rules.specs.Touching.{Walk, walk_of, touched}
 use Rattle.trigger_rules.specs.Laws.{IsPlayerOn}
 use Rattle.shot_rules.specs.Targets.{is_set, shot_box, shot_range, range_if_any, has_aim, way_along}
-use Rattle.shot_rules.specs.Shots.{is_fired, after_meeting, spent, after_shot}
+use Rattle.shot_rules.specs.Shots.{is_fired, after_meeting, walk_after_shot, after_shot}
 use Rattle.shot_rules.proofs.Ways.{stays_in_range}
 use Rattle.shot_rules.proofs.Hits.{firing, fired_is, unfired_is, stay_shooters, only_way_matters}
 use Rattle.arena_outcomes.specs.Outcomes.{moved_among, effect_of, outcome_in, shooting_in}
@@ -81,7 +81,7 @@ in_range_is fixed kept near c w place known kept_are = by (is_fired c w) refl
         let inside : (k : ℕ) → k ≤ step_count way → contains place (body_at body way k) ≡ true =
         λ k within. subst (λ (b : Bounds). contains b (body_at body way k) ≡ true) (sym r.is) (stays_in_range w.me.origin way k within) in
         fired_is kept near c w fired
-        ∙ ap (λ (o : Option Rec). after_meeting c.frame (spent w) o)
+        ∙ ap (λ (o : Option Rec). after_meeting c.frame (walk_after_shot w) o)
         (only_way_matters body way kept fixed near near (record {
           fixed_are = λ k from within. agree.blocked (body_at body way k) (inside k within);
           near_are = λ k from within. refl;

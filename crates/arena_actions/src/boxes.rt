@@ -33,7 +33,7 @@ impl<const N: usize> Boxes<N> {
     pub fn new() -> Self
         ensures { result ≡ [] }
     {
-        let blank = Aabb::between(Vec3::ZERO, Vec3::ZERO);
+        let blank = Aabb::from_corners(Vec3::ZERO, Vec3::ZERO);
         Boxes {
             boxes: [blank; N],
             len: 0,

@@ -23,8 +23,8 @@ pub struct ShotAction {
 }
 
 /// The player as it begins a move, where it isn't down: whoever was has no damage.
-fn risen(me: &Rec) -> Rec
-    ensures { result ≡ outcomes.risen me.now }
+fn player_after_rising(me: &Rec) -> Rec
+    ensures { result ≡ outcomes.player_after_rising me.now }
 {
     let state = if me.state >= DOWN { 0 } else { me.state };
     Rec { state, ..*me }
@@ -32,8 +32,8 @@ fn risen(me: &Rec) -> Rec
 
 /// The player after a command with this number, where it is down: it stays where it is, at rest, and drops what it
 /// carries.
-fn lying(me: &Rec, seq: u32) -> Rec
-    ensures { result ≡ outcomes.lying me.now seq }
+fn player_while_down(me: &Rec, seq: u32) -> Rec
+    ensures { result ≡ outcomes.player_while_down me.now seq }
 {
     Rec {
         vel: Vec3::ZERO,
@@ -45,7 +45,7 @@ fn lying(me: &Rec, seq: u32) -> Rec
 }
 
 /// What a command does that changes nothing but its player.
-fn alone(me: Rec) -> Effect
+fn effect_on_self(me: Rec) -> Effect
     ensures { result ≡ outcomes.effect_of (first_walk me) }
 {
     let reply = Reply {
@@ -153,8 +153,8 @@ impl ShotAction {
         ensures { result ≡ shot_outcome self.now.arena.map me.now near.now (command_of cmd.now) }
     {
         if is_down(me, cmd.frame) {
-            return alone(lying(me, cmd.seq));
+            return effect_on_self(player_while_down(me, cmd.seq));
         }
-        self.shoot(&risen(me), near, cmd)
+        self.shoot(&player_after_rising(me), near, cmd)
     }
 }

@@ -30,7 +30,7 @@ impl From<io::Error> for NoArguments {
     ghost use Rattle.arena_cli.specs.declared.arguments.TheConstants.{NO_MEMORY};
     ghost use Rattle.arena_cli.specs.declared.arguments.NoArguments.TheVariants.{NoMemory};
 
-    ghost from_gives = { λ error reason. (reason ≡ NoMemory) ↔ (error_kind error ≡ NO_MEMORY) };
+    ghost from_gives = { λ error fault. (fault ≡ NoMemory) ↔ (error_kind error ≡ NO_MEMORY) };
 
     fn from(error: io::Error) -> NoArguments {
         if error.kind() == NO_MEMORY {
@@ -45,7 +45,7 @@ impl From<AllocError> for NoArguments {
     ghost use Rattle.std.specs.Prelude.{◌≡◌};
     ghost use Rattle.arena_cli.specs.declared.arguments.NoArguments.TheVariants.{NoMemory};
 
-    ghost from_gives = { λ _ reason. reason ≡ NoMemory };
+    ghost from_gives = { λ _ fault. fault ≡ NoMemory };
 
     fn from(_error: AllocError) -> NoArguments {
         NoArguments::NoMemory

@@ -15,7 +15,7 @@ use Rattle.demo_lines.proofs.Parts.{lines_of-unlines, lines_of-none}
 use Rattle.demo_lines.proofs.Prefixes.{after_last}
 use Rattle.demo_lines.proofs.MapGiven.{after-kept}
 use Rattle.demo_lines.proofs.Continuing.{IsCutAt, same_refusal, cut_after_lines}
-use Rattle.out_text.specs.Collecting.{collected, frames_of}
+use Rattle.out_text.specs.Collecting.{frames_of_events, frames_of}
 use Rattle.out_text.proofs.Growing.{GoesOnWith, goes_on_collected}
 
 -- a recording that begins so, and goes on with these bytes
@@ -74,17 +74,17 @@ pub map_of-whole : (r : Reading) (es : List Event) (bytes rest : List ℕ) (aren
 map_of-whole r es bytes rest arena so whole has = so.map_is ∙ after-kept r (lines_of rest) whole ∙ has
 
 -- where nothing more is given, these are all frames
-pub frames_of-all : (r : Reading) (es : List Event) (bytes rest : List ℕ) → Continues r es bytes rest → events_in r rest ≡ [] → frames_of bytes ≡ (collected es).closed
-frames_of-all r es bytes rest so none = ap (λ xs. (collected xs).closed) (so.events_are ∙ ap (λ xs. es ++ xs) none ∙ append-nil es)
+pub frames_of-all : (r : Reading) (es : List Event) (bytes rest : List ℕ) → Continues r es bytes rest → events_in r rest ≡ [] → frames_of bytes ≡ (frames_of_events es).closed
+frames_of-all r es bytes rest so none = ap (λ xs. (frames_of_events xs).closed) (so.events_are ∙ ap (λ xs. es ++ xs) none ∙ append-nil es)
 
 -- frames that are closed so far are the first of all
-pub goes_on_frames : (r : Reading) (es : List Event) (bytes rest : List ℕ) → Continues r es bytes rest → GoesOnWith (collected es).closed (frames_of bytes)
+pub goes_on_frames : (r : Reading) (es : List Event) (bytes rest : List ℕ) → Continues r es bytes rest → GoesOnWith (frames_of_events es).closed (frames_of bytes)
 goes_on_frames r es bytes rest so =
-    let P : List Event → Type 0 = λ xs. GoesOnWith (collected es).closed (collected xs).closed in
+    let P : List Event → Type 0 = λ xs. GoesOnWith (frames_of_events es).closed (frames_of_events xs).closed in
     subst P (sym so.events_are) (goes_on_collected es (events_in r rest))
 
 -- the same of a front of the events
-pub goes_on_events : (r : Reading) (es more : List Event) (bytes rest : List ℕ) → Continues r (es ++ more) bytes rest → GoesOnWith (collected es).closed (frames_of bytes)
+pub goes_on_events : (r : Reading) (es more : List Event) (bytes rest : List ℕ) → Continues r (es ++ more) bytes rest → GoesOnWith (frames_of_events es).closed (frames_of bytes)
 goes_on_events r es more bytes rest so =
-    let P : List Event → Type 0 = λ xs. GoesOnWith (collected es).closed (collected xs).closed in
+    let P : List Event → Type 0 = λ xs. GoesOnWith (frames_of_events es).closed (frames_of_events xs).closed in
     subst P (sym (so.events_are ∙ append_assoc es more (events_in r rest))) (goes_on_collected es (more ++ events_in r rest))

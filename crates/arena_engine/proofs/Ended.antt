@@ -49,7 +49,7 @@ module _ {S K : Type 0} (s : sources.Ghosts S) (k : sinks.Ghosts K) (texts : Tex
     output = running.first_fault texts hold old demo_stop.ReadFault (s.left source) (k.taken sink) last none fresh (s.left source') stops.read_fault.read_fault;
     front = memory_at_first texts hold (k.taken sink) last none (s.left source);
     same_end = stops.read_fault.no_end;
-    cause = subst (λ (x : DemoReaderView). IsOpen x → HasRisen (s.faults source) (s.faults source')) fresh stops.read_fault.cause running.fresh_is_open;
+    fault = subst (λ (x : DemoReaderView). IsOpen x → HasRisen (s.faults source) (s.faults source')) fresh stops.read_fault.fault running.fresh_is_open;
     later = stops.later;
     fails = λ sure. subst (λ (x : DemoReaderView). IsOpen x → s.never_fails source → ⊥) fresh stops.read_fault.sure running.fresh_is_open sure;
     writes = refl;
@@ -101,7 +101,7 @@ module _ {S K : Type 0} (s : sources.Ghosts S) (k : sinks.Ghosts K) (workers : �
   game_stopped sink' g2 ReadFault never failed short same kept later = absurd never
   game_stopped sink' g2 WriteFault stops failed short same kept later = record {
     output = running.write_failed workers demo before left (k.taken sink0) (k.taken sink) g e (s.faults source0) (s.faults source) (k.faults sink0) (k.faults sink) (k.room sink0) (k.room sink) at.runs k.taken k.faults sink sink' WriteFault g2 g2.last refl refl failed;
-    cause = running.write_counted workers demo before left (k.taken sink0) (k.taken sink) g e (s.faults source0) (s.faults source) (k.faults sink0) (k.faults sink) (k.room sink0) (k.room sink) at.runs k.taken k.faults sink sink' WriteFault g2 refl failed;
+    fault = running.write_counted workers demo before left (k.taken sink0) (k.taken sink) g e (s.faults source0) (s.faults source) (k.faults sink0) (k.faults sink) (k.room sink0) (k.room sink) at.runs k.taken k.faults sink sink' WriteFault g2 refl failed;
     later = subst (λ (n : ℕ). n ≤ k.faults sink') at.runs.write_same later;
     no_room = running.not_cut workers demo before left (k.taken sink0) (k.taken sink) g e (s.faults source0) (s.faults source) (k.faults sink0) (k.faults sink) (k.room sink0) (k.room sink) at.runs WriteFault g2 short;
     reads = at.runs.read_same;
@@ -140,7 +140,7 @@ module _ {S K : Type 0} (s : sources.Ghosts S) (k : sinks.Ghosts K) (workers : �
       front = running.next_front workers demo before left (k.taken sink0) (k.taken sink) g e (s.faults source0) (s.faults source) (k.faults sink0) (k.faults sink) (k.room sink0) (k.room sink) at.runs g2 (k.taken sink') plays.closed plays.advances
           (running.appends_all k.taken k.faults k.room sink sink' _ plays.lines) g2.last refl demo_stop.ReadFault going;
       same_end = stops.read_fault.no_end ∙ (running.needed_going e _ _ _ going at.needed.needed).1;
-      cause = running.next_cause workers demo before left (k.taken sink0) (k.taken sink) g e (s.faults source0) (s.faults source) (k.faults sink0) (k.faults sink) (k.room sink0) (k.room sink) at.runs demo_stop.ReadFault (s.faults source') going stops.read_fault.cause;
+      fault = running.next_cause workers demo before left (k.taken sink0) (k.taken sink) g e (s.faults source0) (s.faults source) (k.faults sink0) (k.faults sink) (k.room sink0) (k.room sink) at.runs demo_stop.ReadFault (s.faults source') going stops.read_fault.fault;
       later = subst (λ (m : ℕ). m ≤ s.faults source') at.runs.read_same stops.later;
       fails = λ sure. stops.read_fault.sure (running.reader_is_open workers demo before left (k.taken sink0) (k.taken sink) g e (s.faults source0) (s.faults source) (k.faults sink0) (k.faults sink) (k.room sink0) (k.room sink) at.runs going) (at.needed.keeps sure);
       writes = plays.lines.uncounted ∙ at.runs.write_same;

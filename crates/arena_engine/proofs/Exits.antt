@@ -17,7 +17,7 @@ use Rattle.demo_lines.proofs.Machines.{run_of-append, outputs_of-append}
 use Rattle.demo_lines.proofs.Parts.{lines_of-unlines}
 use Rattle.demo_lines.proofs.Joins.{whole_text}
 use Rattle.edge_io.proofs.Feeds.{each_of_both}
-use Rattle.out_text.specs.Collecting.{collected, frames_of}
+use Rattle.out_text.specs.Collecting.{frames_of_events, frames_of}
 use Rattle.out_text.specs.Journals.{dids}
 use Rattle.out_text.specs.Output.{last_of, HasLast, IsFront, IsAllFrames, IsRefused, IsSomeFrames}
 use Rattle.arena_engine.specs.FedGames.{Last, no_last}
@@ -37,7 +37,7 @@ none_in_no_text : None ≡ last_of (dids [])
 none_in_no_text = sym (ap last_of nothing_reported)
 
 pub frames_of-none : (bytes : List ℕ) → events bytes ≡ [] → frames_of bytes ≡ []
-frames_of-none bytes none = ap (λ es. (collected es).closed) none
+frames_of-none bytes none = ap (λ es. (frames_of_events es).closed) none
 
 -- the lines of a text in which each has its line feed
 pub lines_of-whole : (lines : List (List ℕ)) → AllByRecursion HasNoLineFeed lines → lines_of (unlines lines) ≡ lines
@@ -97,9 +97,9 @@ module _ (workers : ℕ) (arena : MapView) (r : Reading) (a b : Option (List ℕ
     pub whole : is_map_whole r.stage ≡ true
     pub map : r.map ≡ Some arena
     pub is_map : IsMap arena
-    pub run : AreRun workers arena (collected es).closed js
+    pub run : AreRun workers arena (frames_of_events es).closed js
     pub last_is : last ≡ last_of js
-    pub written : Appends t0 t1 (text_with arena (collected es).closed js)
+    pub written : Appends t0 t1 (text_with arena (frames_of_events es).closed js)
 
   -- memory was refused
   pub memory_on : Played → IfSome a (λ bytes. Writes t0 t1 (HasLast (IsSomeFrames workers bytes) last))
@@ -107,11 +107,11 @@ module _ (workers : ℕ) (arena : MapView) (r : Reading) (a b : Option (List ℕ
       continues r a b es (λ bytes. Writes t0 t1 (HasLast (IsSomeFrames workers bytes) last)) played.reads (λ bytes rest is so.
       let has = map_of-whole r es bytes rest arena so played.whole played.map in
       record {
-        text = text_with arena (collected es).closed js;
+        text = text_with arena (frames_of_events es).closed js;
         written = played.written;
-        holds = front_has_last workers bytes arena (record { has = has; is_map = played.is_map }) (IsSomeFrames workers bytes) (collected es).closed js last (goes_on_frames r es bytes rest so) played.run played.last_is (record {
-          k = length (collected es).closed;
-          front = is_front workers bytes arena (record { has = has; is_map = played.is_map }) (collected es).closed js (goes_on_frames r es bytes rest so) played.run;
+        holds = front_has_last workers bytes arena (record { has = has; is_map = played.is_map }) (IsSomeFrames workers bytes) (frames_of_events es).closed js last (goes_on_frames r es bytes rest so) played.run played.last_is (record {
+          k = length (frames_of_events es).closed;
+          front = is_front workers bytes arena (record { has = has; is_map = played.is_map }) (frames_of_events es).closed js (goes_on_frames r es bytes rest so) played.run;
         });
       })
 
@@ -122,11 +122,11 @@ module _ (workers : ℕ) (arena : MapView) (r : Reading) (a b : Option (List ℕ
       let here : EndsAt r why rest = let P : Option (List ℕ) → Type 0 = λ o. IfSome o (EndsAt r why) in subst P is ends in
       let has = map_of-whole r es bytes rest arena so played.whole played.map in
       record {
-        text = text_with arena (collected es).closed js;
+        text = text_with arena (frames_of_events es).closed js;
         written = played.written;
-        holds = front_has_last workers bytes arena (record { has = has; is_map = played.is_map }) (IsRefused workers bytes why) (collected es).closed js last (goes_on_frames r es bytes rest so) played.run played.last_is (record {
+        holds = front_has_last workers bytes arena (record { has = has; is_map = played.is_map }) (IsRefused workers bytes why) (frames_of_events es).closed js last (goes_on_frames r es bytes rest so) played.run played.last_is (record {
           faulty = so.fault_is ∙ here.fault;
-          frames = is_all_frames workers bytes arena (record { has = has; is_map = played.is_map }) (collected es).closed js (frames_of-all r es bytes rest so here.events) played.run;
+          frames = is_all_frames workers bytes arena (record { has = has; is_map = played.is_map }) (frames_of_events es).closed js (frames_of-all r es bytes rest so here.events) played.run;
         });
       })
 
@@ -160,9 +160,9 @@ module _ (workers : ℕ) (arena : MapView) (r : Reading) (a b : Option (List ℕ
         consumed = subst (Consumes a l) (sym joined)
             (Consumes-trans a b l (unlines played.reads.lines) (unlines reads.lines ++ reads.front) (subst (Consumes a b) taken played.reads.consumed) reads.consumed);
         frames = record {
-          text = text_with arena (collected es).closed js;
+          text = text_with arena (frames_of_events es).closed js;
           written = played.written;
-          holds = front_has_last workers bytes arena (record { has = has; is_map = played.is_map }) (IsAllFrames workers bytes) (collected es).closed js last (goes_on_frames u es bytes [] so) played.run played.last_is
-              (is_all_frames workers bytes arena (record { has = has; is_map = played.is_map }) (collected es).closed js (frames_of-all u es bytes [] so refl) played.run);
+          holds = front_has_last workers bytes arena (record { has = has; is_map = played.is_map }) (IsAllFrames workers bytes) (frames_of_events es).closed js last (goes_on_frames u es bytes [] so) played.run played.last_is
+              (is_all_frames workers bytes arena (record { has = has; is_map = played.is_map }) (frames_of_events es).closed js (frames_of-all u es bytes [] so refl) played.run);
         };
       }

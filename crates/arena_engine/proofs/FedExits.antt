@@ -16,7 +16,7 @@ use Rattle.demo_lines.specs.Reads.{Reads, ReadsFront, EndsAt}
 use Rattle.demo_lines.proofs.Machines.{run_of-append, outputs_of-append}
 use Rattle.demo_lines.proofs.Joins.{whole_text}
 use Rattle.edge_io.proofs.Feeds.{each_of_both}
-use Rattle.out_text.specs.Collecting.{collected}
+use Rattle.out_text.specs.Collecting.{frames_of_events}
 use Rattle.out_text.specs.Feeds.{AreFeedsOf, HasLastFed, IsFedFront, IsFedFrames, IsFedRefused, IsFedSome}
 use Rattle.arena_engine.specs.Output.{Writes, ReadsSome}
 use Rattle.arena_engine.specs.FedGames.{Last}
@@ -52,9 +52,9 @@ module _ (workers : ℕ) (arena : MapView) (r : Reading) (a b : Option (List ℕ
     pub whole : is_map_whole r.stage ≡ true
     pub map : r.map ≡ Some arena
     pub is_map : IsMap arena
-    pub fed : AreFeedsOf (collected es).closed feeds
+    pub fed : AreFeedsOf (frames_of_events es).closed feeds
     pub run : AreRun workers arena feeds js
-    pub last_is : IsLastOf last (collected es).closed feeds js
+    pub last_is : IsLastOf last (frames_of_events es).closed feeds js
     pub written : Appends t0 t1 (fed_text_with arena feeds js)
 
   -- memory was refused
@@ -62,7 +62,7 @@ module _ (workers : ℕ) (arena : MapView) (r : Reading) (a b : Option (List ℕ
   memory_on played =
       continues r a b es (λ bytes. Writes t0 t1 (HasLastFed (IsFedSome workers bytes) bytes last.order last.journal)) played.reads (λ bytes rest is so.
       let has = map_of-whole r es bytes rest arena so played.whole played.map in
-      let closed = (collected es).closed in
+      let closed = (frames_of_events es).closed in
       let on = goes_on_frames r es bytes rest so in
       record {
         text = fed_text_with arena feeds js;
@@ -79,7 +79,7 @@ module _ (workers : ℕ) (arena : MapView) (r : Reading) (a b : Option (List ℕ
       continues r a b es (λ bytes. Writes t0 t1 (HasLastFed (IsFedRefused workers bytes why) bytes last.order last.journal)) played.reads (λ bytes rest is so.
       let here : EndsAt r why rest = let P : Option (List ℕ) → Type 0 = λ o. IfSome o (EndsAt r why) in subst P is ends in
       let has = map_of-whole r es bytes rest arena so played.whole played.map in
-      let closed = (collected es).closed in
+      let closed = (frames_of_events es).closed in
       let on = goes_on_frames r es bytes rest so in
       record {
         text = fed_text_with arena feeds js;
@@ -120,7 +120,7 @@ module _ (workers : ℕ) (arena : MapView) (r : Reading) (a b : Option (List ℕ
         consumed = subst (Consumes a l) (sym joined)
             (Consumes-trans a b l (unlines played.reads.lines) (unlines reads.lines ++ reads.front) (subst (Consumes a b) taken played.reads.consumed) reads.consumed);
         frames =
-            let closed = (collected es).closed in
+            let closed = (frames_of_events es).closed in
             let on = goes_on_frames u es bytes [] so in
             record {
               text = fed_text_with arena feeds js;

@@ -22,7 +22,7 @@ use Rattle.demo_lines.proofs.Joins.{Reads-trans}
 use Rattle.demo_lines.proofs.MapGiven.{after-kept}
 use Rattle.demo_lines.proofs.Walks.{whole_after}
 use Rattle.out_text.specs.OutLines.{OutLine, EndLine, text_of}
-use Rattle.out_text.specs.Collecting.{Frames, closing, collect, collected, frames_of}
+use Rattle.out_text.specs.Collecting.{Frames, closed_frames, collect, frames_of_events, frames_of}
 use Rattle.out_text.specs.Output.{last_of}
 use Rattle.packet_read.specs.Orders.{in_order, AreEachOnce}
 use Rattle.out_text.specs.Feeds.{AreFeedsOf, RiseByParity, IsLastOrder, last_fed, with_froms, fed_lines, HasLastFed, IsFedOutput, IsFedCut, IsFedSome}
@@ -66,10 +66,10 @@ last_order-push closed feeds arrivals order each rising = record {
 pub record ClosedFed (workers : ℕ) (arena : MapView) (closed feeds : List (List Arrival)) (js : List (List Entry)) (waiting : Option (List Arrival)) (new : ServerView) (c : Option Closing) (lines : List OutLine) : Type 0 where
   pub others : List (List Arrival)
   pub more : List (List Entry)
-  pub fed : AreFeedsOf (closed ++ closing waiting) (feeds ++ others)
+  pub fed : AreFeedsOf (closed ++ closed_frames waiting) (feeds ++ others)
   pub run : AreRun workers arena (feeds ++ others) (js ++ more)
   pub at : IsServerAt arena (feeds ++ others) (js ++ more) new
-  pub last_is : (before : Last) → IsLastOf before closed feeds js → IsLastOf (newest_last c before) (closed ++ closing waiting) (feeds ++ others) (js ++ more)
+  pub last_is : (before : Last) → IsLastOf before closed feeds js → IsLastOf (newest_last c before) (closed ++ closed_frames waiting) (feeds ++ others) (js ++ more)
   pub whole : fed_lines_of arena feeds js ++ lines ≡ fed_lines_of arena (feeds ++ others) (js ++ more)
 
 closed_by : (workers : ℕ) (arena : MapView) (closed feeds : List (List Arrival)) (js : List (List Entry)) (waiting : Option (List Arrival)) (old new : ServerView) (c : Option Closing) → AreFeedsOf closed feeds → AreRun workers arena feeds js
@@ -144,7 +144,7 @@ module _ (workers : ℕ) (arena : MapView) (f : Frames) (feeds : List (List Arri
         at = c.at;
         waiting = goes.waiting_is;
         opened = goes.opened_is ∙ ap none_handed (sym goes.waiting_is);
-        last_is = subst (λ (l : Last). IsLastOf l (f.closed ++ closing f.opened) (feeds ++ c.others) (js ++ c.more)) (sym advances.last_is) (c.last_is old.last last_is);
+        last_is = subst (λ (l : Last). IsLastOf l (f.closed ++ closed_frames f.opened) (feeds ++ c.others) (js ++ c.more)) (sym advances.last_is) (c.last_is old.last last_is);
         whole = ap (λ ls. fed_lines_of arena feeds js ++ ls) lines-same ∙ c.whole ∙ sym (append-nil (fed_lines_of arena (feeds ++ c.others) (js ++ c.more)));
       }
   advanced (From a) advances =
@@ -179,7 +179,7 @@ module _ (workers : ℕ) (arena : MapView) (f : Frames) (feeds : List (List Arri
         at = c.at;
         waiting = goes.waiting_is;
         opened = goes.opened_is ∙ ap none_handed (sym goes.waiting_is);
-        last_is = subst (λ (l : Last). IsLastOf l (f.closed ++ closing f.opened) (feeds ++ c.others) (js ++ c.more)) (sym advances.last_is) (c.last_is old.last last_is);
+        last_is = subst (λ (l : Last). IsLastOf l (f.closed ++ closed_frames f.opened) (feeds ++ c.others) (js ++ c.more)) (sym advances.last_is) (c.last_is old.last last_is);
         whole = ap (λ ls. here ++ (ls ++ EndLine new.course.server.frames ∷ [])) lines-same
             ∙ sym (append_assoc here (fed_closing_lines old.course.server f.opened closed) (EndLine new.course.server.frames ∷ []))
             ∙ ap (λ ls. ls ++ EndLine new.course.server.frames ∷ []) c.whole
@@ -197,7 +197,7 @@ module _ (workers : ℕ) (arena : MapView) (f : Frames) (feeds : List (List Arri
 module _ (workers : ℕ) (bytes : List ℕ) (arena : MapView) (played : IsPlayed bytes arena) where
   module _ (before last : Last) (closed feeds : List (List Arrival)) (js : List (List Entry)) (are : AreFeedsOf closed feeds) (so_far : IsLastOf before closed feeds js) where
     cut_frame : (waiting : Option (List Arrival)) (old new : ServerView) (c : Option Closing) (count : ℕ) → last ≡ newest_last c before → AreRun workers arena feeds js
-        → IsServerAt arena feeds js old → ClosesFed workers old new waiting c → GoesOnWith (closed ++ closing waiting) (frames_of bytes)
+        → IsServerAt arena feeds js old → ClosesFed workers old new waiting c → GoesOnWith (closed ++ closed_frames waiting) (frames_of bytes)
         → count < length (text_of (fed_closing_lines old waiting c)) → IsFedCut workers bytes last.order last.journal (fed_text_with arena feeds js ++ take count (text_of (fed_closing_lines old waiting c)))
     cut_frame None old new c count is run at closes on short = absurd (omega arith)
     cut_frame (Some arrivals) old new None count is run at never on short = absurd never
@@ -212,7 +212,7 @@ module _ (workers : ℕ) (bytes : List ℕ) (arena : MapView) (played : IsPlayed
         (feeds-push closed feeds arrivals fed are runs.feed) more.run (last_order-push closed feeds arrivals c.order runs.places runs.rising) (ap (with_froms fed) more.lines_are) short)))
 
     cut_end : (waiting : Option (List Arrival)) (old new : ServerView) (c : Option Closing) (count : ℕ) → last ≡ newest_last c before → AreRun workers arena feeds js
-        → IsServerAt arena feeds js old → ClosesFed workers old new waiting c → fault bytes ≡ None → frames_of bytes ≡ closed ++ closing waiting
+        → IsServerAt arena feeds js old → ClosesFed workers old new waiting c → fault bytes ≡ None → frames_of bytes ≡ closed ++ closed_frames waiting
         → count < length (text_of (fed_closing_lines old waiting c ++ EndLine new.frames ∷ []))
         → IsFedCut workers bytes last.order last.journal (fed_text_with arena feeds js ++ take count (text_of (fed_closing_lines old waiting c ++ EndLine new.frames ∷ [])))
     cut_end None old new None count is run at same accepted all short =
@@ -301,7 +301,7 @@ begins workers arena r a b t g e reads stage frames arrivals has is_map is = rec
 
 module _ (workers : ℕ) (arena : MapView) (r : Reading) (a b : Option (List ℕ)) (t0 t1 : Option (List ℕ)) (g : FedView) (e : Event) (p : FedProgress workers arena r a b t0 t1 g e) where
   abbrev f : Frames
-  f = collected p.events
+  f = frames_of_events p.events
 
   whole : is_map_whole r.stage ≡ true
   whole = ap is_map_whole p.stage ∙ whole_after e
@@ -439,7 +439,7 @@ module _ (workers : ℕ) (arena : MapView) (r : Reading) (a b : Option (List ℕ
         no_last_line (From y) h = refl
         no_last_line End h = cc
 
-    pushed : (collected (p.events ++ e ∷ [])) ≡ collect f e
+    pushed : (frames_of_events (p.events ++ e ∷ [])) ≡ collect f e
     pushed = collected-push p.events e
 
     -- it wasn't the end, and was played

@@ -67,7 +67,7 @@ module _ {S K : Type 0} (s : sources.Ghosts S) (k : sinks.Ghosts K) (source sour
 
     pub cut-checked : r.status ≡ 4 → AppendsPart (k.taken sink) (k.taken sink') (right_text frames moves) → (MOST_SUMMARY_BYTES ≤ k.room sink → r.status ≡ 4 → ⊥) → HasRisen (k.faults sink) (k.faults sink')
         → r.last ≡ None → r.all ≡ [] → IsChecked s k source source' sink sink' r
-    cut-checked status written sure cause last all = record {
+    cut-checked status written sure fault last all = record {
       known = omega (arith, status);
       done = λ st. absurd (omega (arith, status, st));
       read = λ st. absurd (omega (arith, status, st));
@@ -83,12 +83,12 @@ module _ {S K : Type 0} (s : sources.Ghosts S) (k : sinks.Ghosts K) (source sour
       no_frame = last;
       no_journals = all;
       sure_writes = sure;
-      complete = λ has failed. absurd (failed.writing cause);
-      complete_refusal = λ has failed. absurd (failed.writing cause);
+      complete = λ has failed. absurd (failed.writing fault);
+      complete_refusal = λ has failed. absurd (failed.writing fault);
     }
 
     pub right-checked : (r.status ≡ 0) ⊎ (r.status ≡ 4) → (r.status ≡ 0 → Appends (k.taken sink) (k.taken sink') (right_text frames moves))
         → (r.status ≡ 4 → AppendsPart (k.taken sink) (k.taken sink') (right_text frames moves)) → Counts 4 (k.faults sink) (k.faults sink') r.status
         → (MOST_SUMMARY_BYTES ≤ k.room sink → r.status ≡ 4 → ⊥) → r.last ≡ None → r.all ≡ [] → IsChecked s k source source' sink sink' r
     right-checked (inl zero_is) done cut counts sure last all = done-checked zero_is (done zero_is) last all
-    right-checked (inr four_is) done cut counts sure last all = cut-checked four_is (cut four_is) sure (counts.cause four_is) last all
+    right-checked (inr four_is) done cut counts sure last all = cut-checked four_is (cut four_is) sure (counts.fault four_is) last all

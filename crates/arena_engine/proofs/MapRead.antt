@@ -146,7 +146,7 @@ module _ {S : Type 0} (s : sources.Ghosts S) where
         }
     gives_stop demo_stop.ReadFault stops = record {
       same_end = stops.read_fault.no_end ∙ on.same_end;
-      cause = subst (λ (n : ℕ). HasRisen n (s.faults next)) on.same (stops.read_fault.cause on.is_open);
+      fault = subst (λ (n : ℕ). HasRisen n (s.faults next)) on.same (stops.read_fault.fault on.is_open);
       later = subst (λ (n : ℕ). n ≤ s.faults next) on.same stops.later;
       fails = λ sure. stops.read_fault.sure on.is_open (on.keeps sure);
     }

@@ -28,7 +28,7 @@ use Rattle.demo_lines.proofs.MapGiven.{after-kept}
 use Rattle.demo_lines.proofs.Walks.{whole_after}
 use Rattle.out_text.specs.OutLines.{OutLine, EndLine, text_of}
 use Rattle.out_text.specs.FrameLines.{lines_with, run_lines}
-use Rattle.out_text.specs.Collecting.{Frames, closing, collect, collected, no_frames, frames_of}
+use Rattle.out_text.specs.Collecting.{Frames, closed_frames, collect, frames_of_events, no_frames, frames_of}
 use Rattle.out_text.specs.Output.{last_of, HasLast, AreRightIn, AreInOrderIn, IsOutput, IsCut, IsSomeFrames}
 use Rattle.out_text.proofs.Growing.{GoesOnWith, collected-append}
 use Rattle.out_text.proofs.Agreement.{Agrees, AgreesAt, NoneYet, OneOpen, AllClosed, agrees_lines}
@@ -41,7 +41,7 @@ use Rattle.arena_engine.specs.Output.{HasRoom, Writes, ReadsToEnd}
 use Rattle.arena_engine.proofs.Continuing.{Continues, continues, map_of-whole, frames_of-all, goes_on_frames, goes_on_events}
 use Rattle.arena_engine.proofs.Exits.{Played}
 
-pub collected-push : (es : List Event) (e : Event) → collected (es ++ e ∷ []) ≡ collect (collected es) e
+pub collected-push : (es : List Event) (e : Event) → frames_of_events (es ++ e ∷ []) ≡ collect (frames_of_events es) e
 collected-push es e = collected-append es (e ∷ [])
 
 -- ---- a server that has run frames
@@ -86,10 +86,10 @@ one_more workers arena closed js arrivals old new j run at runs =
 -- what a frame that is closed, if one was open, comes to
 pub record Closed (workers : ℕ) (arena : MapView) (closed : List (List Arrival)) (js : List (List Entry)) (opened : Option (List Arrival)) (new : ServerView) (j : Option (List Entry)) (lines : List OutLine) : Type 0 where
   pub more : List (List Entry)
-  pub run : AreRun workers arena (closed ++ closing opened) (js ++ more)
-  pub at : IsServerAt arena (closed ++ closing opened) (js ++ more) new
+  pub run : AreRun workers arena (closed ++ closed_frames opened) (js ++ more)
+  pub at : IsServerAt arena (closed ++ closed_frames opened) (js ++ more) new
   pub last_is : (before : Option (List Entry)) → before ≡ last_of js → newest j before ≡ last_of (js ++ more)
-  pub whole : lines_of arena closed js ++ lines ≡ lines_of arena (closed ++ closing opened) (js ++ more)
+  pub whole : lines_of arena closed js ++ lines ≡ lines_of arena (closed ++ closed_frames opened) (js ++ more)
 
 closed_by : (workers : ℕ) (arena : MapView) (closed : List (List Arrival)) (js : List (List Entry)) (opened : Option (List Arrival)) (old new : ServerView) (j : Option (List Entry)) → AreRun workers arena closed js
     → IsServerAt arena closed js old → Closes workers old new opened j → Closed workers arena closed js opened new j (closing_lines old opened j)
@@ -144,7 +144,7 @@ module _ (workers : ℕ) (arena : MapView) (f : Frames) (js : List (List Entry))
         at = c.at;
         opened = goes.opened_is;
         last_is = advances.last_is ∙ c.last_is old.last last_is;
-        whole = ap (λ ls. lines_of arena f.closed js ++ ls) lines-same ∙ c.whole ∙ sym (append-nil (lines_of arena (f.closed ++ closing f.opened) (js ++ c.more)));
+        whole = ap (λ ls. lines_of arena f.closed js ++ ls) lines-same ∙ c.whole ∙ sym (append-nil (lines_of arena (f.closed ++ closed_frames f.opened) (js ++ c.more)));
       }
   advanced (From a) advances =
       let goes = advances.goes in
@@ -169,7 +169,7 @@ module _ (workers : ℕ) (arena : MapView) (f : Frames) (js : List (List Entry))
         whole = ap (λ ls. here ++ (ls ++ EndLine new.course.server.frames ∷ [])) lines-same
             ∙ sym (append_assoc here (closing_lines old.course.server f.opened closed) (EndLine new.course.server.frames ∷ []))
             ∙ ap (λ ls. ls ++ EndLine new.course.server.frames ∷ []) c.whole
-            ∙ ap (λ n. lines_of arena (f.closed ++ closing f.opened) (js ++ c.more) ++ EndLine n ∷ []) c.at.frames;
+            ∙ ap (λ n. lines_of arena (f.closed ++ closed_frames f.opened) (js ++ c.more) ++ EndLine n ∷ []) c.at.frames;
       }
 
   -- the text of an event, after that of the frames before it
@@ -183,7 +183,7 @@ module _ (workers : ℕ) (arena : MapView) (f : Frames) (js : List (List Entry))
 module _ (workers : ℕ) (bytes : List ℕ) (arena : MapView) (played : IsPlayed bytes arena) where
   module _ (before last : Option (List Entry)) (closed : List (List Arrival)) (js : List (List Entry)) (so_far : before ≡ last_of js) where
     cut_frame : (opened : Option (List Arrival)) (old new : ServerView) (j : Option (List Entry)) (count : ℕ) → last ≡ newest j before → AreRun workers arena closed js
-        → IsServerAt arena closed js old → Closes workers old new opened j → GoesOnWith (closed ++ closing opened) (frames_of bytes)
+        → IsServerAt arena closed js old → Closes workers old new opened j → GoesOnWith (closed ++ closed_frames opened) (frames_of bytes)
         → count < length (text_of (closing_lines old opened j)) → IsCut workers bytes last (text_with arena closed js ++ take count (text_of (closing_lines old opened j)))
     cut_frame None old new j count is run at closes on short = absurd (omega arith)
     cut_frame (Some arrivals) old new None count is run at never on short = absurd never
@@ -194,7 +194,7 @@ module _ (workers : ℕ) (bytes : List ℕ) (arena : MapView) (played : IsPlayed
         (inl (frame_cut workers bytes arena played closed arrivals js j (closing_lines old (Some arrivals) (Some j)) count (right_count arena 0 (opening arena) closed js run.right) on more.run more.lines_are short))
 
     cut_end : (opened : Option (List Arrival)) (old new : ServerView) (j : Option (List Entry)) (count : ℕ) → last ≡ newest j before → AreRun workers arena closed js
-        → IsServerAt arena closed js old → Closes workers old new opened j → fault bytes ≡ None → frames_of bytes ≡ closed ++ closing opened
+        → IsServerAt arena closed js old → Closes workers old new opened j → fault bytes ≡ None → frames_of bytes ≡ closed ++ closed_frames opened
         → count < length (text_of (closing_lines old opened j ++ EndLine new.frames ∷ []))
         → IsCut workers bytes last (text_with arena closed js ++ take count (text_of (closing_lines old opened j ++ EndLine new.frames ∷ [])))
     cut_end None old new None count is run at same accepted all short =
@@ -264,7 +264,7 @@ fault-at_end r es bytes rest so ended =
     so.fault_is ∙ ap (λ t. refused_where t (last_part rest)) (after-over r (lines_in rest) (ap is_over ended)) ∙ ap (λ stage. refused_at stage r (last_part rest)) ended
 
 pub frames-at_end : (r : Reading) (es : List Event) (bytes rest : List ℕ) → Continues r (es ++ End ∷ []) bytes rest → r.stage ≡ Ended
-    → frames_of bytes ≡ (collected es).closed ++ closing (collected es).opened
+    → frames_of bytes ≡ (frames_of_events es).closed ++ closed_frames (frames_of_events es).opened
 frames-at_end r es bytes rest so ended =
     frames_of-all r (es ++ End ∷ []) bytes rest so (events_of-over r (lines_in rest) (ap is_over ended)) ∙ ap (λ (f : Frames). f.closed) (collected-push es End)
 
@@ -286,15 +286,15 @@ few_after r f stage fits agrees (inr ended) =
     let closed : AllClosed r f = subst P ended agrees in
     let Q : Option (List Arrival) → Type 0 = λ o. IfSome o (λ arrivals. length arrivals ≤ 512) in subst Q (sym closed.opened) tt
 
-pub agrees_from_start : (r : Reading) (a b : Option (List ℕ)) (es : List Event) → Reads start r a b es → Agrees r (collected es)
+pub agrees_from_start : (r : Reading) (a b : Option (List ℕ)) (es : List Event) → Reads start r a b es → Agrees r (frames_of_events es)
 agrees_from_start r a b es reads =
     let none : NoneYet start no_frames = record { closed = refl; opened = refl; frames = refl } in
     let here = agrees_lines start reads.lines no_frames none in
-    let P : List Event → Type 0 = λ xs. Agrees (after start reads.lines) (collected xs) in
-    let Q : Reading → Type 0 = λ u. Agrees u (collected es) in
+    let P : List Event → Type 0 = λ xs. Agrees (after start reads.lines) (frames_of_events xs) in
+    let Q : Reading → Type 0 = λ u. Agrees u (frames_of_events es) in
     subst Q (sym reads.reached) (subst P reads.events here)
 
-room : (closed : List (List Arrival)) (o : Option (List Arrival)) (n : ℕ) → length (closed ++ closing o) + n ≤ 100000 → 1 ≤ n ⊎ (n ≡ 0) → IfSome o (λ _. length closed < 100000)
+room : (closed : List (List Arrival)) (o : Option (List Arrival)) (n : ℕ) → length (closed ++ closed_frames o) + n ≤ 100000 → 1 ≤ n ⊎ (n ≡ 0) → IfSome o (λ _. length closed < 100000)
 room closed None n fits some = tt
 room closed (Some arrivals) n fits some = omega (arith, length-append closed (arrivals ∷ []))
 
@@ -306,7 +306,7 @@ pub room_before : (r : Reading) (f : Frames) (e : Event) → r.frames ≤ 100000
 room_before r f Frame fits stage agrees =
     let P : Stage → Type 0 = λ s. AgreesAt s r (collect f Frame) in
     let one : OneOpen r (collect f Frame) = subst P stage agrees in
-    let enough : length (f.closed ++ closing f.opened) + 1 ≤ 100000 = omega (arith, one.frames) in room f.closed f.opened 1 enough (inl (omega arith))
+    let enough : length (f.closed ++ closed_frames f.opened) + 1 ≤ 100000 = omega (arith, one.frames) in room f.closed f.opened 1 enough (inl (omega arith))
 room_before r f (From a) fits stage agrees =
     let P : Stage → Type 0 = λ s. AgreesAt s r (collect f (From a)) in
     let one : OneOpen r (collect f (From a)) = subst P stage agrees in
@@ -314,7 +314,7 @@ room_before r f (From a) fits stage agrees =
 room_before r f End fits stage agrees =
     let P : Stage → Type 0 = λ s. AgreesAt s r (collect f End) in
     let all : AllClosed r (collect f End) = subst P stage agrees in
-    let enough : length (f.closed ++ closing f.opened) + 0 ≤ 100000 = omega (arith, all.frames) in room f.closed f.opened 0 enough (inr refl)
+    let enough : length (f.closed ++ closed_frames f.opened) + 0 ≤ 100000 = omega (arith, all.frames) in room f.closed f.opened 0 enough (inr refl)
 
 pub stage_of : (e : Event) → (stage_after e ≡ Playing) ⊎ (stage_after e ≡ Ended)
 stage_of Frame = inl refl
@@ -347,7 +347,7 @@ some_and (Some bytes) P X has each = each has
 
 module _ (workers : ℕ) (arena : MapView) (r : Reading) (a b : Option (List ℕ)) (t0 t1 : Option (List ℕ)) (g : GameView) (e : Event) (p : Progress workers arena r a b t0 t1 g e) where
   abbrev f : Frames
-  f = collected p.events
+  f = frames_of_events p.events
 
   whole : is_map_whole r.stage ≡ true
   whole = ap is_map_whole p.stage ∙ whole_after e
@@ -468,7 +468,7 @@ module _ (workers : ℕ) (arena : MapView) (r : Reading) (a b : Option (List ℕ
 
     -- what was written then, where it wasn't the end
     going_text : is_end e ≡ false → text_of (lines_of arena (collect f e).closed (p.journals ++ next.more) ++ last_lines e (collect f e).closed)
-        ≡ text_with arena (collected (p.events ++ e ∷ [])).closed (p.journals ++ next.more)
+        ≡ text_with arena (frames_of_events (p.events ++ e ∷ [])).closed (p.journals ++ next.more)
     going_text going =
         ap (λ ls. text_of (lines_of arena (collect f e).closed (p.journals ++ next.more) ++ ls)) (no_last e going)
         ∙ ap text_of (append-nil (lines_of arena (collect f e).closed (p.journals ++ next.more)))
@@ -526,7 +526,7 @@ module _ (workers : ℕ) (arena : MapView) (r : Reading) (a b : Option (List ℕ
     -- how far the recording was played then, with the text of one event more
     pub record Next (r' : Reading) (b' t2 : Option (List ℕ)) (e' : Event) : Type 0 where
       pub progress : Progress workers arena r' a b' t0 t2 new e'
-      pub text : text_with arena (collected progress.events).closed progress.journals ≡ text_so_far ++ text_of (event_lines g.course new.course e closed)
+      pub text : text_with arena (frames_of_events progress.events).closed progress.journals ≡ text_so_far ++ text_of (event_lines g.course new.course e closed)
 
     pub goes_on : (r' : Reading) (b' t2 : Option (List ℕ)) (e' : Event) → is_end e ≡ false → Appends t1 t2 (text_of (event_lines g.course new.course e closed)) → Reads r r' b b' (e' ∷ [])
         → r'.stage ≡ stage_after e' → r'.frames ≤ 100000 → r'.arrivals ≤ 512 → Next r' b' t2 e'

@@ -90,8 +90,8 @@ module _ {S K : Type 0} (s : sources.Ghosts S) (k : sinks.Ghosts K) (texts : Tex
     taken_once = λ is. taken_in_some texts sound (s.left source) (k.taken sink) (k.taken sink') (last_in r) stopped.front;
     no_journals = all;
     sure_writes = λ roomy is. absurd (omega (arith, is, status));
-    complete = λ none nothing. absurd (nothing.reading stopped.cause);
-    complete_refusal = λ some nothing. absurd (nothing.reading stopped.cause);
+    complete = λ none nothing. absurd (nothing.reading stopped.fault);
+    complete_refusal = λ some nothing. absurd (nothing.reading stopped.fault);
     surely_complete = λ sure roomy. absurd (stopped.fails sure);
     surely_refused = λ sure roomy. absurd (stopped.fails sure);
   }
@@ -109,8 +109,8 @@ module _ {S K : Type 0} (s : sources.Ghosts S) (k : sinks.Ghosts K) (texts : Tex
     taken_once = λ is. absurd (is status);
     no_journals = all;
     sure_writes = λ roomy is. stopped.no_room roomy;
-    complete = λ none nothing. absurd (nothing.writing stopped.cause);
-    complete_refusal = λ some nothing. absurd (nothing.writing stopped.cause);
+    complete = λ none nothing. absurd (nothing.writing stopped.fault);
+    complete_refusal = λ some nothing. absurd (nothing.writing stopped.fault);
     surely_complete = λ sure both. absurd (stopped.no_room (second_of (s.left source) (λ bytes. fault bytes ≡ None) (λ bytes. texts.has_room bytes (k.room sink)) both));
     surely_refused = λ sure both. absurd (stopped.no_room (second_of (s.left source) (λ bytes. IsSome (fault bytes)) (λ bytes. texts.has_room bytes (k.room sink)) both));
   }
@@ -147,11 +147,11 @@ module _ {S K : Type 0} (s : sources.Ghosts S) (k : sinks.Ghosts K) (texts : Tex
 
 -- a count that didn't change, where the status isn't that of its fault
 pub uncounted_in : (of_fault before after status : ℕ) → after ≡ before → (status ≡ of_fault → ⊥) → Counts of_fault before after status
-uncounted_in of_fault before after status same other = record { later = omega (arith, same); cause = λ is. absurd (other is); uncounted = λ no. same }
+uncounted_in of_fault before after status same other = record { later = omega (arith, same); fault = λ is. absurd (other is); uncounted = λ no. same }
 
 -- a count that rose, where it is
 pub counted_in : (of_fault before after status : ℕ) → status ≡ of_fault → before ≤ after → HasRisen before after → Counts of_fault before after status
-counted_in of_fault before after status is later risen = record { later = later; cause = λ same. risen; uncounted = λ no. absurd (no is) }
+counted_in of_fault before after status is later risen = record { later = later; fault = λ same. risen; uncounted = λ no. absurd (no is) }
 
 module _ {S K : Type 0} (s : sources.Ghosts S) (k : sinks.Ghosts K) (workers : ℕ) (source source' : S) (sink sink' : K) (r : Report) where
   abbrev pub IsPlaceless : Type 0
@@ -195,13 +195,13 @@ module _ {S K : Type 0} (s : sources.Ghosts S) (k : sinks.Ghosts K) (texts : Tex
   read_fault_ends : r.status ≡ 3 → IsPlaceless s k 1 source source' sink sink' r → StopsAtReadFault s k texts source source' sink sink' (last_in r) → Ends s k source source' sink sink' r
   read_fault_ends status place stopped =
       ends_of s k 1 source source' sink sink' r (omega (arith, status)) (λ is. omega (arith, is, status)) (λ no. place)
-      (counted_in 3 _ _ r.status status stopped.later stopped.cause) (uncounted_in 4 _ _ r.status stopped.writes (λ is. omega (arith, is, status)))
+      (counted_in 3 _ _ r.status status stopped.later stopped.fault) (uncounted_in 4 _ _ r.status stopped.writes (λ is. omega (arith, is, status)))
       (λ is. stopped.same_end) (λ sure is. stopped.fails sure)
 
   write_fault_ends : r.status ≡ 4 → IsPlaceless s k 1 source source' sink sink' r → StopsAtWriteFault s k texts source source' sink sink' (last_in r) → Ends s k source source' sink sink' r
   write_fault_ends status place stopped =
       ends_of s k 1 source source' sink sink' r (omega (arith, status)) (λ is. omega (arith, is, status)) (λ no. place)
-      (uncounted_in 3 _ _ r.status stopped.reads (λ is. omega (arith, is, status))) (counted_in 4 _ _ r.status status stopped.later stopped.cause)
+      (uncounted_in 3 _ _ r.status stopped.reads (λ is. omega (arith, is, status))) (counted_in 4 _ _ r.status status stopped.later stopped.fault)
       (λ is. absurd (omega (arith, is, status))) (λ sure is. omega (arith, is, status))
 
   memory_ends : r.status ≡ 5 → IsPlaceless s k 1 source source' sink sink' r → StopsAtMemory s k texts source source' sink sink' (last_in r) → Ends s k source source' sink sink' r

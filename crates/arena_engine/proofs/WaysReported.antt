@@ -62,7 +62,7 @@ pub ways-cut : {K : Type 0} (k : sinks.Ghosts K) (m : MapView) (target : ℕ) (s
     → WritesStop k m target sink sink' stop
 ways-cut k m target sink sink' text r plan_stop.WriteFault is part nothing later risen sure shows = record {
   written = record { text = text; written = part is; holds = shows };
-  cause = risen is;
+  fault = risen is;
   later = later;
   no_room = λ room. sure (room text shows) is;
 }
@@ -175,6 +175,6 @@ module _ {S K : Type 0} (s : sources.Ghosts S) (k : sinks.Ghosts K) (target : �
       no_journals = all;
       sure_writes = λ room is. cuts.no_room (room-of (s.left source) m (HasRoomForWays (k.room sink) target) given.map_is room);
       sure_longest = λ room is. cuts.no_room (ways-fit m target (k.room sink) room);
-      complete = λ none nothing. absurd (nothing.writing cuts.cause);
-      complete_refusal = λ some nothing. absurd (nothing.writing cuts.cause);
+      complete = λ none nothing. absurd (nothing.writing cuts.fault);
+      complete_refusal = λ some nothing. absurd (nothing.writing cuts.fault);
     }

@@ -13,7 +13,7 @@ IsOrMemory status wanted = (status ≡ 5) ⊎ (status ≡ wanted)
 -- and else is as it was
 pub record Counts (of_fault before after status : ℕ) : Type 0 where
   pub later : before ≤ after
-  pub cause : status ≡ of_fault → HasRisen before after
+  pub fault : status ≡ of_fault → HasRisen before after
   pub uncounted : (status ≡ of_fault → ⊥) → after ≡ before
 
 -- a call with this source and this sink ended as the report says

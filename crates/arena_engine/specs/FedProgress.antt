@@ -12,7 +12,7 @@ use Rattle.packet_read.specs.declared.arrival.Arrival.{Arrival}
 use Rattle.demo_lines.specs.declared.event.Event.{Event}
 use Rattle.demo_lines.specs.Known.{Reading, start, without_map}
 use Rattle.demo_lines.specs.Reads.{DemoReaderView, Reads, stage_after}
-use Rattle.out_text.specs.Collecting.{collected}
+use Rattle.out_text.specs.Collecting.{frames_of_events}
 use Rattle.out_text.specs.Output.{last_of}
 use Rattle.out_text.specs.Feeds.{AreFeedsOf, IsLastOrder}
 use Rattle.out_text.proofs.Fronts.{AreRun}
@@ -38,15 +38,15 @@ pub record FedProgress (workers : ℕ) (arena : MapView) (reading : Reading) (be
   pub arrivals : reading.arrivals ≤ MOST_ARRIVALS
   pub map : reading.map ≡ Some arena
   pub is_map : IsMap arena
-  pub few : IfSome (collected events).opened (λ arrivals. length arrivals ≤ MOST_ARRIVALS)
+  pub few : IfSome (frames_of_events events).opened (λ arrivals. length arrivals ≤ MOST_ARRIVALS)
   pub feeds : List (List Arrival)
-  pub fed : AreFeedsOf (collected events).closed feeds
+  pub fed : AreFeedsOf (frames_of_events events).closed feeds
   pub journals : List (List Entry)
   pub run : AreRun workers arena feeds journals
   pub at : IsServerAt arena feeds journals game.course.server
-  pub waiting : game.waiting ≡ (collected events).opened
+  pub waiting : game.waiting ≡ (frames_of_events events).opened
   pub opened : game.course.opened ≡ none_handed game.waiting
-  pub last_is : IsLastOf game.last (collected events).closed feeds journals
+  pub last_is : IsLastOf game.last (frames_of_events events).closed feeds journals
   pub written : Appends taken_before taken (fed_text_with arena feeds journals)
 
 -- how far the recording was played, by a reader whose map was given out; neither count of faults has changed, and what room the sink was sure to have is that

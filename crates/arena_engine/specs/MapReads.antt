@@ -35,7 +35,7 @@ module _ {S : Type 0} (s : sources.Ghosts S) (source source' : S) where
   -- the source failed
   pub record GivesReadFault : Type 0 where
     pub same_end : s.ended source' ≡ s.ended source
-    pub cause : HasRisen (s.faults source) (s.faults source')
+    pub fault : HasRisen (s.faults source) (s.faults source')
     pub later : s.faults source ≤ s.faults source'
     pub fails : s.never_fails source → ⊥
 
@@ -76,7 +76,7 @@ module _ {K : Type 0} (k : sinks.Ghosts K) (m : MapView) (target : ℕ) (sink si
   -- the sink failed
   pub record WritesCut : Type 0 where
     pub written : WritesPart (k.taken sink) (k.taken sink') (ShowsWays m target)
-    pub cause : HasRisen (k.faults sink) (k.faults sink')
+    pub fault : HasRisen (k.faults sink) (k.faults sink')
     pub later : k.faults sink ≤ k.faults sink'
     pub no_room : HasRoomForWays (k.room sink) target m → ⊥
 

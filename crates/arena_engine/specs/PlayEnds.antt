@@ -33,7 +33,7 @@ module _ {S K : Type 0} (s : sources.Ghosts S) (k : sinks.Ghosts K) (texts : Tex
     pub output : ReadsSome (λ bytes. texts.all_frames bytes last) (s.left source) (s.left source') (k.taken sink) (k.taken sink')
     pub front : IfSome (s.left source) (λ bytes. Writes (k.taken sink) (k.taken sink') (texts.some_frames bytes last))
     pub same_end : s.ended source' ≡ s.ended source
-    pub cause : HasRisen (s.faults source) (s.faults source')
+    pub fault : HasRisen (s.faults source) (s.faults source')
     pub later : s.faults source ≤ s.faults source'
     pub fails : s.never_fails source → ⊥
     pub writes : k.faults sink' ≡ k.faults sink
@@ -41,7 +41,7 @@ module _ {S K : Type 0} (s : sources.Ghosts S) (k : sinks.Ghosts K) (texts : Tex
   -- the sink failed: a part of the first frames was written, all of which but the last are whole
   pub record StopsAtWriteFault : Type 0 where
     pub output : IfSome (s.left source) (λ bytes. Writes (k.taken sink) (k.taken sink') (texts.cut bytes last))
-    pub cause : HasRisen (k.faults sink) (k.faults sink')
+    pub fault : HasRisen (k.faults sink) (k.faults sink')
     pub later : k.faults sink ≤ k.faults sink'
     pub no_room : IsSomeAnd (s.left source) (λ bytes. texts.has_room bytes (k.room sink)) → ⊥
     pub reads : s.faults source' ≡ s.faults source

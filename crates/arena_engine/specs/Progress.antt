@@ -16,7 +16,7 @@ use Rattle.demo_lines.specs.declared.event.Event.{Event}
 use Rattle.demo_lines.specs.declared.event.Event.TheVariants.{End}
 use Rattle.demo_lines.specs.Known.{Reading, start, without_map}
 use Rattle.demo_lines.specs.Reads.{DemoReaderView, Reads, TakesCutEnd, stage_after}
-use Rattle.out_text.specs.Collecting.{collected}
+use Rattle.out_text.specs.Collecting.{frames_of_events}
 use Rattle.out_text.specs.Output.{last_of}
 use Rattle.out_text.proofs.Fronts.{AreRun, text_with}
 use Rattle.arena_engine.specs.declared.stop.Stop.{Stop}
@@ -39,13 +39,13 @@ pub record Progress (workers : ℕ) (arena : MapView) (reading : Reading) (befor
   pub arrivals : reading.arrivals ≤ MOST_ARRIVALS
   pub map : reading.map ≡ Some arena
   pub is_map : IsMap arena
-  pub few : IfSome (collected events).opened (λ arrivals. length arrivals ≤ MOST_ARRIVALS)
+  pub few : IfSome (frames_of_events events).opened (λ arrivals. length arrivals ≤ MOST_ARRIVALS)
   pub journals : List (List Entry)
-  pub run : AreRun workers arena (collected events).closed journals
-  pub at : IsServerAt arena (collected events).closed journals game.course.server
-  pub opened : game.course.opened ≡ (collected events).opened
+  pub run : AreRun workers arena (frames_of_events events).closed journals
+  pub at : IsServerAt arena (frames_of_events events).closed journals game.course.server
+  pub opened : game.course.opened ≡ (frames_of_events events).opened
   pub last_is : game.last ≡ last_of journals
-  pub written : Appends taken_before taken (text_with arena (collected events).closed journals)
+  pub written : Appends taken_before taken (text_with arena (frames_of_events events).closed journals)
 
 -- how far the recording was played, by a reader whose map was given out; neither count of faults has changed, and what room the sink was sure to have is that
 -- which it has and the text so far
@@ -58,7 +58,7 @@ pub record Runs (workers : ℕ) (demo : DemoReaderView) (before ahead : Option (
   pub no_stop : demo.stop ≡ None
   pub read_same : reads ≡ reads_before
   pub write_same : writes ≡ writes_before
-  pub roomy : room_before ≤ room + length (text_with arena (collected progress.events).closed progress.journals)
+  pub roomy : room_before ≤ room + length (text_with arena (frames_of_events progress.events).closed progress.journals)
 
 -- how the source was read: no more than was needed, and without its end, but for an end without a line feed; and it is as sure
 -- as before

@@ -11,7 +11,7 @@ use crate::stop::Stop;
 use arena_map::ArenaMap;
 use demo_lines::Event;
 use edge_io::Sink;
-use feed_queue::{ArrivalOrder, NoFeedGate, gather};
+use feed_queue::{ArrivalOrder, NoFeedHold, gather};
 use move_journal::Journal;
 use out_text::Printer;
 use packet_read::{Arrival, ArrivalBytes};
@@ -100,7 +100,7 @@ fn feed_frame<R: Threads + Wait + Sync, G: Gate>(
     requires empty { fed.old.items ≡ [] }
     ensures { IfOk result (HandsPackets waiting.now playback.old.course playback.new.course fed.new.items) }
 {
-    let order = gather(host.rt, host.alloc, waiting, &NoFeedGate)?;
+    let order = gather(host.rt, host.alloc, waiting, &NoFeedHold)?;
     hand_over(host, waiting, &order, fed, playback)?;
     Ok(order)
 }

@@ -11,7 +11,7 @@ use crate::report::Report;
 use crate::status::Status;
 use crate::summary::push_summary;
 use edge_io::{LineBuf, Sink, write_whole};
-use match_play::{Game, Totals, play_match};
+use match_play::{MatchGame, Totals, play_match};
 use playback::Host;
 use shared_moves::Gate;
 use std::alloc::AllocError;
@@ -22,7 +22,7 @@ use std::thread::Threads;
 /// journals of the match.
 fn sum_up<K: Sink>(
     ended: Result<Totals, AllocError>,
-    game: Game,
+    game: MatchGame,
     line: &mut LineBuf,
     sink: &mut K,
 ) -> Report
@@ -69,7 +69,7 @@ pub fn play_and_sum<R: Threads + Wait + Sync, K: Sink, G: Gate>(
     let Ok(mut line) = LineBuf::new(host.alloc) else {
         return Report::of_status_alone(host.alloc, Status::NoMemory);
     };
-    let Ok(mut game) = Game::new(host.alloc) else {
+    let Ok(mut game) = MatchGame::new(host.alloc) else {
         return Report::of_status_alone(host.alloc, Status::NoMemory);
     };
     let ended = play_match(host, seed, players, frames, &mut game);

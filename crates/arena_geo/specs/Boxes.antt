@@ -39,12 +39,12 @@ contains a b =
     && contains_on a.lo.z a.hi.z b.lo.z b.hi.z
 
 -- the box, larger by this much on both sides of each axis
-abbrev pub grown : Bounds → Vec3 → Bounds
-grown b by = record { lo = minus b.lo by; hi = plus b.hi by }
+abbrev pub box_grown_by : Bounds → Vec3 → Bounds
+box_grown_by b by = record { lo = minus b.lo by; hi = plus b.hi by }
 
 -- the box, elsewhere
-abbrev pub moved : Bounds → Vec3 → Bounds
-moved b by = record { lo = plus b.lo by; hi = plus b.hi by }
+abbrev pub box_moved_by : Bounds → Vec3 → Bounds
+box_moved_by b by = record { lo = plus b.lo by; hi = plus b.hi by }
 
 -- from the least low corner to the greatest high one
 abbrev pub hull : Bounds → Bounds → Bounds

@@ -81,7 +81,7 @@ impl Aabb {
     // it. It took 9 percent off the instructions of heavy recordings.
     /// The box between two corners of which it is known that they make one. [`Aabb::new`] is for corners of
     /// which it isn't.
-    pub fn between(lo: Vec3, hi: Vec3) -> Aabb
+    pub fn from_corners(lo: Vec3, hi: Vec3) -> Aabb
         requires { IsBox (bounds lo hi) }
         ensures { result ≡ bounds lo hi }
     {
@@ -153,7 +153,7 @@ impl Aabb {
     pub fn grow(&self, by: Vec3) -> Option<Aabb>
         requires not_negative { IsNotNegative by }
         requires near { IsNear LIMIT by }
-        ensures { SomeIff result (IsInRange (boxes.grown self.now by)) (boxes.grown self.now by) }
+        ensures { SomeIff result (IsInRange (boxes.box_grown_by self.now by)) (boxes.box_grown_by self.now by) }
     {
         Aabb::new(self.lo - by, self.hi + by)
     }
@@ -162,8 +162,8 @@ impl Aabb {
     /// [`Aabb::grow`] is for where it isn't.
     pub fn grown(&self, by: Vec3) -> Aabb
         requires not_negative { IsNotNegative by }
-        requires in_range { IsInRange (boxes.grown self.now by) }
-        ensures { result ≡ boxes.grown self.now by }
+        requires in_range { IsInRange (boxes.box_grown_by self.now by) }
+        ensures { result ≡ boxes.box_grown_by self.now by }
     {
         Aabb {
             lo: self.lo - by,
@@ -174,15 +174,15 @@ impl Aabb {
     /// The box, moved by `by`. `None` exactly where a coordinate leaves the range.
     pub fn moved(&self, by: Vec3) -> Option<Aabb>
         requires { IsNear LIMIT by }
-        ensures { SomeIff result (IsInRange (boxes.moved self.now by)) (boxes.moved self.now by) }
+        ensures { SomeIff result (IsInRange (boxes.box_moved_by self.now by)) (boxes.box_moved_by self.now by) }
     {
         Aabb::new(self.lo + by, self.hi + by)
     }
 
     /// The box, moved by `by`, where it is known that it stays in range. [`Aabb::moved`] is for where it isn't.
     pub fn shifted(&self, by: Vec3) -> Aabb
-        requires { IsInRange (boxes.moved self.now by) }
-        ensures { result ≡ boxes.moved self.now by }
+        requires { IsInRange (boxes.box_moved_by self.now by) }
+        ensures { result ≡ boxes.box_moved_by self.now by }
     {
         Aabb {
             lo: self.lo + by,

@@ -61,7 +61,7 @@ impl Region {
     }
 
     /// Whether some box of the region has a common point with `b`, the faces counted.
-    pub fn touched(&self, b: &Aabb) -> bool
+    pub fn is_touched_by(&self, b: &Aabb) -> bool
         ensures value { result ≡ touches_region b.now self.now }
         ensures region { IsRegion self.now }
     {

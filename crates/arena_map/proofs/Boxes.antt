@@ -4,7 +4,7 @@ use Rattle.std.proofs.lemmas.Int.{ints}
 use Rattle.arena_geo.specs.declared.vec3.Vec3.{Vec3}
 use Rattle.arena_geo.specs.Vectors.{IsNear, Fits, plus}
 use Rattle.arena_geo.specs.Bounds.{bounds, IsOrdered, IsBox}
-use Rattle.arena_map.specs.Places.{is_long, is_wide, is_thick, item_body, upwards, shaft}
+use Rattle.arena_map.specs.Positions.{is_long, is_wide, is_thick, item_body, upwards, shaft}
 
 pub three_parts : (a b c : Bool) → (a && b && c) ≡ true → (a ≡ true) × (b ≡ true) × (c ≡ true)
 three_parts true true c h = (refl, refl, h)

@@ -5,7 +5,7 @@ use Rattle.std.proofs.lemmas.List.Sums.{sum_by-cons}
 use Rattle.arena_map.specs.declared.map_line.MapLine.{MapLine}
 use Rattle.arena_map.specs.declared.map_line.MapLine.TheVariants.{Arena, Block, Spawn, Item, Teleport, Goal, Lift, Depth, Shots}
 use Rattle.arena_map.specs.MapLines.{is_thing_line, is_item_line, is_teleport_line, is_goal_line, is_lift_line}
-use Rattle.arena_map.specs.Places.{shaft_of}
+use Rattle.arena_map.specs.Positions.{shaft_of}
 
 -- one element more is counted where it passes
 pub count-cons : (p : MapLine → Bool) (line : MapLine) (lines : List MapLine) → count_by p (line ∷ lines) ≡ cond (p line) 1 0 + count_by p lines

@@ -10,7 +10,7 @@ use Rattle.arena_map.specs.declared.map_word.MapField.{MapField}
 use Rattle.arena_map.specs.declared.map_word.MapField.TheVariants.{Number, ItemKind}
 use Rattle.arena_map.specs.Words.{item_kind}
 use Rattle.arena_map.specs.Reading.{is_field, is_field_first, has_fields}
-use Rattle.arena_map.specs.Causes.{spaced, AreOfForm, IsOfFields}
+use Rattle.arena_map.specs.TextFaults.{texts_after_spaces, AreOfForm, IsOfFields}
 use Rattle.arena_map.specs.Laws.{FieldsAreSpaced}
 use Rattle.arena_map.proofs.LinesSound.{kind-spelled}
 use Rattle.arena_map.proofs.LinesBack.{kind-above}
@@ -48,7 +48,7 @@ field_above Number text h = number_above text h
 field_above ItemKind text h = kind_above text (item_kind text) refl h
 
 -- fields begin with a space
-spaced_end : (texts : List (List ℕ)) → IsEnd (spaced texts)
+spaced_end : (texts : List (List ℕ)) → IsEnd (texts_after_spaces texts)
 spaced_end [] = tt
 spaced_end (text ∷ texts) = refl
 
@@ -70,13 +70,13 @@ of_fields (field ∷ fields) rest h = by (λ after is. of_fields fields after is
           spelled = field_at-whole rest parts e ∙ ap (λ after. field_text parts.0 ++ after) more.spelled;
         }
 
-have_form : (fields : List MapField) (texts : List (List ℕ)) → AreOfForm fields texts → has_fields fields (spaced texts) ≡ true
+have_form : (fields : List MapField) (texts : List (List ℕ)) → AreOfForm fields texts → has_fields fields (texts_after_spaces texts) ≡ true
 have_form [] [] forms = refl
 have_form [] (text ∷ texts) forms = absurd forms
 have_form (field ∷ fields) [] forms = absurd forms
 have_form (field ∷ fields) (text ∷ texts) forms =
-    let at = field_at-field text (spaced texts) (field_above field text forms.0) (spaced_end texts) in
-    ap (λ o. is_field_first field o (has_fields fields)) at ∙ ap (λ b. b && has_fields fields (spaced texts)) forms.0 ∙ have_form fields texts forms.1
+    let at = field_at-field text (texts_after_spaces texts) (field_above field text forms.0) (spaced_end texts) in
+    ap (λ o. is_field_first field o (has_fields fields)) at ∙ ap (λ b. b && has_fields fields (texts_after_spaces texts)) forms.0 ∙ have_form fields texts forms.1
 
 pub fields_are_spaced : FieldsAreSpaced
 fields_are_spaced fields rest = (of_fields fields rest, λ is. ap (has_fields fields) is.spelled ∙ have_form fields is.texts is.forms)

@@ -13,7 +13,7 @@ use Rattle.arena_map.specs.declared.map_line.MapLine.{MapLine}
 use Rattle.arena_map.specs.declared.map_line.MapLine.TheVariants.{Arena, Block, Spawn, Item, Teleport, Goal, Lift, Depth, Shots}
 use Rattle.arena_map.specs.Faults.{number_of}
 use Rattle.arena_map.specs.MapLines.{is_item_line, is_teleport_line, is_goal_line, is_lift_line}
-use Rattle.arena_map.specs.Places.{is_wide, is_box_inside, is_player_inside, shaft_of, keeps_box, keeps_stand, keeps_item, keeps_travel}
+use Rattle.arena_map.specs.Positions.{is_wide, is_box_inside, is_player_inside, shaft_of, keeps_box, keeps_stand, keeps_item, keeps_travel}
 use Rattle.arena_map.specs.Maps.{MapView, shafts_of, IsMap}
 use Rattle.arena_map.specs.Rules.{broken_by_arena, bare_map, broken_rule, with_block, with_spawn, with_thing, with_depth, with_shots, with_line}
 use Rattle.arena_map.specs.KeptRules.{KeepsRule, IsFirstBroken}

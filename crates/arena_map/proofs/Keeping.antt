@@ -18,7 +18,7 @@ use Rattle.arena_map.specs.declared.map_fault.MapFault.TheVariants as fault
 use Rattle.arena_map.specs.declared.map_line.MapLine.{MapLine}
 use Rattle.arena_map.specs.declared.map_line.MapLine.TheVariants.{Arena, Block, Spawn, Item, Teleport, Goal, Lift, Depth, Shots}
 use Rattle.arena_map.specs.MapLines.{IsWithinLimits, is_thing_line, is_item_line, is_teleport_line, is_goal_line, is_lift_line}
-use Rattle.arena_map.specs.Places.{is_wide, is_thick, shaft, shaft_of, has_thick_lift, keeps_box, keeps_stand, keeps_item, keeps_travel}
+use Rattle.arena_map.specs.Positions.{is_wide, is_thick, shaft, shaft_of, has_thick_lift, keeps_box, keeps_stand, keeps_item, keeps_travel}
 use Rattle.arena_map.specs.Maps.{MapView, shafts_of, IsSpawn, IsBlock, IsThingInside, IsMap}
 use Rattle.arena_map.specs.Rules.{broken_by_arena, bare_map, keeps_count, meets_shaft, keeps_shafts, broken_rule, with_block, with_spawn, with_thing, with_depth, with_shots, with_line}
 use Rattle.arena_map.proofs.Boxes.{near_box, wide_ordered, thick_box}

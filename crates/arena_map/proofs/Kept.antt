@@ -10,7 +10,7 @@ use Rattle.arena_map.specs.declared.map_line.MapLine.{MapLine}
 use Rattle.arena_map.specs.declared.limits.TheConstants.{MOST_THINGS}
 use Rattle.arena_map.specs.declared.settings.Settings.{Settings}
 use Rattle.arena_map.specs.MapLines.{is_thing_line}
-use Rattle.arena_map.specs.Places.{shaft_of}
+use Rattle.arena_map.specs.Positions.{shaft_of}
 use Rattle.arena_map.specs.Things.{record_of, records_from}
 use Rattle.arena_map.specs.Maps.{MapView, map_of, IsThingInside, IsMap, IsKept}
 use Rattle.arena_map.proofs.Counting.{all-counted}

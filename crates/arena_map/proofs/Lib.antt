@@ -12,7 +12,7 @@ pub mod ThingsFound
 pub mod LinesSound
 pub mod LinesBack
 pub mod FieldForms
-pub mod Causes
+pub mod TextFaults
 pub mod Opening
 pub mod ThingData
 pub mod LineThings

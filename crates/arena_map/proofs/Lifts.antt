@@ -8,7 +8,7 @@ use Rattle.arena_geo.specs.Boxes.{contains_on, contains}
 use Rattle.arena_map.specs.declared.lift.Lift as lifts
 use Rattle.arena_map.specs.declared.map_line.MapLine.{MapLine}
 use Rattle.arena_map.specs.declared.map_line.MapLine.TheVariants.{Arena, Block, Spawn, Item, Teleport, Goal, Lift, Depth, Shots}
-use Rattle.arena_map.specs.Places.{is_thick, raised}
+use Rattle.arena_map.specs.Positions.{is_thick, box_at_the_top}
 use Rattle.arena_map.specs.Things.{lift_data}
 use Rattle.arena_map.specs.Maps.{MapView, IsThingInside, IsLift, IsMap}
 use Rattle.std.proofs.lemmas.Option.{same_Some}
@@ -49,7 +49,7 @@ pub lift-is_lift : (map : MapView) (line : MapLine) → IsMap map → IsThingIns
 lift-is_lift map (Lift lo hi rise speed) is inside =
     let limits = inside.limits in
     let order = thick_ordered lo hi (and_parts (is_thick lo hi) (contains map.bounds (bounds lo hi)) inside.inside).0 in
-    let way = on_z map.bounds (raised lo hi rise) inside.travel in
+    let way = on_z map.bounds (box_at_the_top lo hi rise) inside.travel in
     record {
       low = limits.0.z;
       high = high-near map.bounds.lo.z map.bounds.hi.z lo.z hi.z rise is.lo.z is.hi.z way order.z;
@@ -123,7 +123,7 @@ lift-inside map id lo hi rise speed r is inside same =
     let parts = and_parts (is_thick lo hi) (contains map.bounds (bounds lo hi)) inside.inside in
     let order = thick_ordered lo hi parts.0 in
     let at = inside-of map.bounds (bounds lo hi) parts.1 in
-    let way = inside-of map.bounds (raised lo hi rise) inside.travel in
+    let way = inside-of map.bounds (box_at_the_top lo hi rise) inside.travel in
     let high : unsigned_abs (lo.z +ℤ rise) ≤ 1048576 = high-near map.bounds.lo.z map.bounds.hi.z lo.z hi.z rise is.lo.z is.hi.z way.z order.z in
     let mins_x : r.mins.x ≡ pos 0 = ap (λ (v : Vec3). v.x) same.mins in
     let mins_y : r.mins.y ≡ pos 0 = ap (λ (v : Vec3). v.y) same.mins in

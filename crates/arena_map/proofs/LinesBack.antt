@@ -20,7 +20,7 @@ use Rattle.arena_map.specs.declared.map_word.MapWord.{MapWord}
 use Rattle.arena_map.specs.declared.map_word.MapWord.TheVariants as words
 use Rattle.arena_map.specs.MapLines.{IsWithinLimits}
 use Rattle.arena_map.specs.Words.{word_text, map_word, kind_text, item_kind}
-use Rattle.arena_map.specs.Reading.{coordinate_at, point_at, above_zero, count_at, kind_at, alone, corners_at, at_least, number_between, line_within, line_of_word, line_of_first, map_line_of}
+use Rattle.arena_map.specs.Reading.{coordinate_at, point_at, above_zero, count_at, kind_at, line_at_end, corners_at, at_least, number_between, line_within, line_of_word, line_of_first, map_line_of}
 use Rattle.arena_map.specs.Spelling.{word_of, point_text, fields_text, map_line_text}
 use Rattle.arena_map.proofs.LinesSound.{within-form}
 
@@ -97,9 +97,9 @@ item-back at kind delay limits =
     let kind_field = field_text (kind_text kind) in
     let delay_field = field_text (decimal delay) in
     let At : Option (Vec3 × List ℕ) → Option MapLine =
-    λ o. o >>= (λ p. kind_at p.1 >>= (λ k. count_at 65535 k.1 >>= (λ d. alone (Item p.0 k.0 d.0) d.1))) in
-    let KindOf : Option (Kind × List ℕ) → Option MapLine = λ o. o >>= (λ k. count_at 65535 k.1 >>= (λ d. alone (Item at k.0 d.0) d.1)) in
-    let Delay : Option (ℕ × List ℕ) → Option MapLine = λ o. o >>= (λ d. alone (Item at kind d.0) d.1) in
+    λ o. o >>= (λ p. kind_at p.1 >>= (λ k. count_at 65535 k.1 >>= (λ d. line_at_end (Item p.0 k.0 d.0) d.1))) in
+    let KindOf : Option (Kind × List ℕ) → Option MapLine = λ o. o >>= (λ k. count_at 65535 k.1 >>= (λ d. line_at_end (Item at k.0 d.0) d.1)) in
+    let Delay : Option (ℕ × List ℕ) → Option MapLine = λ o. o >>= (λ d. line_at_end (Item at kind d.0) d.1) in
     ap (line_within words.Item) (append_assoc (point_text at) kind_field delay_field)
     ∙ ap At (point-back at (kind_field ++ delay_field) limits.0 refl)
     ∙ ap KindOf (kind-back kind delay_field limits.1 refl)
@@ -108,8 +108,8 @@ item-back at kind delay limits =
 teleport-back : (lo hi dest : Vec3) → IsWithinLimits (Teleport lo hi dest)
     → line_within words.Teleport (fields_text (Teleport lo hi dest)) ≡ Some (Teleport lo hi dest)
 teleport-back lo hi dest limits =
-    let Corners : Option (Vec3 × Vec3 × List ℕ) → Option MapLine = λ o. o >>= (λ c. point_at c.2 >>= (λ d. alone (Teleport c.0 c.1 d.0) d.1)) in
-    let Dest : Option (Vec3 × List ℕ) → Option MapLine = λ o. o >>= (λ d. alone (Teleport lo hi d.0) d.1) in
+    let Corners : Option (Vec3 × Vec3 × List ℕ) → Option MapLine = λ o. o >>= (λ c. point_at c.2 >>= (λ d. line_at_end (Teleport c.0 c.1 d.0) d.1)) in
+    let Dest : Option (Vec3 × List ℕ) → Option MapLine = λ o. o >>= (λ d. line_at_end (Teleport lo hi d.0) d.1) in
     ap Corners (corners-back lo hi (point_text dest) limits.0 limits.1 refl) ∙ ap Dest (last-point dest limits.2)
 
 -- a lift's numbers, which are above 0
@@ -119,9 +119,9 @@ lift-numbers-back lo hi rise speed near_lo near_hi least_rise most_rise least_sp
     let rise_field = field_text (decimal rise) in
     let speed_field = field_text (decimal speed) in
     let Corners : Option (Vec3 × Vec3 × List ℕ) → Option MapLine =
-    λ o. o >>= (λ c. count_at 1048576 c.2 >>= (λ r. count_at 2560 r.1 >>= (λ s. alone (Lift c.0 c.1 (pos r.0) (pos s.0)) s.1))) in
-    let Rise : Option (ℕ × List ℕ) → Option MapLine = λ o. o >>= (λ r. count_at 2560 r.1 >>= (λ s. alone (Lift lo hi (pos r.0) (pos s.0)) s.1)) in
-    let Speed : Option (ℕ × List ℕ) → Option MapLine = λ o. o >>= (λ s. alone (Lift lo hi (pos rise) (pos s.0)) s.1) in
+    λ o. o >>= (λ c. count_at 1048576 c.2 >>= (λ r. count_at 2560 r.1 >>= (λ s. line_at_end (Lift c.0 c.1 (pos r.0) (pos s.0)) s.1))) in
+    let Rise : Option (ℕ × List ℕ) → Option MapLine = λ o. o >>= (λ r. count_at 2560 r.1 >>= (λ s. line_at_end (Lift lo hi (pos r.0) (pos s.0)) s.1)) in
+    let Speed : Option (ℕ × List ℕ) → Option MapLine = λ o. o >>= (λ s. line_at_end (Lift lo hi (pos rise) (pos s.0)) s.1) in
     ap (line_within words.Lift) (append_assoc (point_text lo ++ point_text hi) rise_field speed_field)
     ∙ ap Corners (corners-back lo hi (rise_field ++ speed_field) near_lo near_hi refl)
     ∙ ap Rise (count-back 1048576 rise speed_field least_rise most_rise (omega arith) refl)
@@ -158,24 +158,24 @@ between-back least most n rest low few small ends =
 
 depth-back : (depth : ℕ) → IsTreeDepth depth → line_within words.Depth (fields_text (Depth depth)) ≡ Some (Depth depth)
 depth-back depth range =
-    let Line : Option (ℕ × List ℕ) → Option MapLine = λ o. o >>= (λ d. alone (Depth d.0) d.1) in
+    let Line : Option (ℕ × List ℕ) → Option MapLine = λ o. o >>= (λ d. line_at_end (Depth d.0) d.1) in
     ap (line_within words.Depth) (sym (append-nil (field_text (decimal depth))))
     ∙ ap Line (between-back LEAST_DEPTH MOST_DEPTH depth [] range.least range.most (omega arith) tt)
 
 within-back : (l : MapLine) → IsWithinLimits l → line_within (word_of l) (fields_text l) ≡ Some l
 within-back (Arena lo hi) limits =
-    let Line : Option (Vec3 × Vec3 × List ℕ) → Option MapLine = λ o. o >>= (λ c. alone (Arena c.0 c.1) c.2) in
+    let Line : Option (Vec3 × Vec3 × List ℕ) → Option MapLine = λ o. o >>= (λ c. line_at_end (Arena c.0 c.1) c.2) in
     ap Line (last-corners lo hi limits.0 limits.1)
 within-back (Block lo hi) limits =
-    let Line : Option (Vec3 × Vec3 × List ℕ) → Option MapLine = λ o. o >>= (λ c. alone (Block c.0 c.1) c.2) in
+    let Line : Option (Vec3 × Vec3 × List ℕ) → Option MapLine = λ o. o >>= (λ c. line_at_end (Block c.0 c.1) c.2) in
     ap Line (last-corners lo hi limits.0 limits.1)
 within-back (Spawn at) limits =
-    let Line : Option (Vec3 × List ℕ) → Option MapLine = λ o. o >>= (λ p. alone (Spawn p.0) p.1) in
+    let Line : Option (Vec3 × List ℕ) → Option MapLine = λ o. o >>= (λ p. line_at_end (Spawn p.0) p.1) in
     ap Line (last-point at limits)
 within-back (Item at kind delay) limits = item-back at kind delay limits
 within-back (Teleport lo hi dest) limits = teleport-back lo hi dest limits
 within-back (Goal lo hi) limits =
-    let Line : Option (Vec3 × Vec3 × List ℕ) → Option MapLine = λ o. o >>= (λ c. alone (Goal c.0 c.1) c.2) in
+    let Line : Option (Vec3 × Vec3 × List ℕ) → Option MapLine = λ o. o >>= (λ c. line_at_end (Goal c.0 c.1) c.2) in
     ap Line (last-corners lo hi limits.0 limits.1)
 within-back (Lift lo hi rise speed) limits = lift-back lo hi rise speed limits
 within-back (Depth depth) limits = depth-back depth limits

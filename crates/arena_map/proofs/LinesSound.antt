@@ -23,7 +23,7 @@ use Rattle.arena_map.specs.declared.map_word.MapField.{MapField}
 use Rattle.arena_map.specs.declared.map_word.MapField.TheVariants.{Number, ItemKind}
 use Rattle.arena_map.specs.MapLines.{IsWithinLimits}
 use Rattle.arena_map.specs.Words.{word_text, map_word, kind_text, item_kind, numbers, fields_of}
-use Rattle.arena_map.specs.Reading.{is_field_first, has_fields, coordinate_at, point_at, above_zero, count_at, kind_at, at_least, number_between, depth_in, alone, corners_at, arena_in, block_in, spawn_in, item_in, teleport_in, goal_in, lift_in, line_within, line_of_word, line_of_first, map_line_of}
+use Rattle.arena_map.specs.Reading.{is_field_first, has_fields, coordinate_at, point_at, above_zero, count_at, kind_at, at_least, number_between, depth_in, line_at_end, corners_at, arena_in, block_in, spawn_in, item_in, teleport_in, goal_in, lift_in, line_within, line_of_word, line_of_first, map_line_of}
 use Rattle.arena_map.specs.Spelling.{word_of, point_text, fields_text, map_line_text}
 
 -- ---- steps
@@ -168,7 +168,7 @@ pub record ReadsLine (word : MapWord) (rest : List ℕ) (line : MapLine) : Type 
 
 -- nothing more is on the line
 alone-read : (word : MapWord) (line l : MapLine) (rest after : List ℕ) → word_of line ≡ word → IsWithinLimits line → IsRead (fields_of word) (fields_text line) rest after
-    → alone line after ≡ Some l → ReadsLine word rest l
+    → line_at_end line after ≡ Some l → ReadsLine word rest l
 alone-read word line l rest [] is limits read h =
     let P : MapLine → Type 0 = ReadsLine word rest in
     subst P (same_Some line l h) (record { word_is = is; limits = limits; read = read })

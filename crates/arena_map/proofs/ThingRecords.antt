@@ -19,7 +19,7 @@ use Rattle.entity_recs.specs.Kinds.{is_item}
 use Rattle.arena_map.specs.declared.map_line.MapLine.{MapLine}
 use Rattle.arena_map.specs.declared.map_line.MapLine.TheVariants.{Arena, Block, Spawn, Item, Teleport, Goal, Lift, Depth, Shots}
 use Rattle.arena_map.specs.MapLines.{is_thing_line}
-use Rattle.arena_map.specs.Places.{is_thick}
+use Rattle.arena_map.specs.Positions.{is_thick}
 use Rattle.arena_map.specs.Things.{record_of, records_from}
 use Rattle.arena_map.specs.Maps.{MapView, entities_of, IsThingInside, IsMap}
 use Rattle.arena_map.proofs.Boxes.{three_parts}

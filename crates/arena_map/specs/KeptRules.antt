@@ -8,8 +8,8 @@ use Rattle.arena_map.specs.declared.map_fault.MapFault.TheVariants as fault
 use Rattle.arena_map.specs.declared.map_line.MapLine.{MapLine}
 use Rattle.arena_map.specs.Faults.{number_of}
 use Rattle.arena_map.specs.MapLines.{is_item_line, is_teleport_line, is_goal_line, is_lift_line}
-use Rattle.arena_map.specs.Places.{is_wide, is_box_inside, is_player_inside, keeps_box, keeps_stand, keeps_item}
-use Rattle.arena_map.specs.Places.{keeps_travel}
+use Rattle.arena_map.specs.Positions.{is_wide, is_box_inside, is_player_inside, keeps_box, keeps_stand, keeps_item}
+use Rattle.arena_map.specs.Positions.{keeps_travel}
 use Rattle.arena_map.specs.Maps.{MapView, shafts_of}
 
 -- the line of each thing passes this test in the arena

@@ -18,7 +18,7 @@ use Rattle.arena_map.specs.declared.map_line.MapLine.{MapLine}
 use Rattle.arena_map.specs.declared.map_word.MapField.{MapField}
 use Rattle.arena_map.specs.MapLines.{IsWithinLimits, is_teleporter, is_lift}
 use Rattle.arena_map.specs.Reading.{has_fields, map_line_of}
-use Rattle.arena_map.specs.Causes.{IsOfFields}
+use Rattle.arena_map.specs.TextFaults.{IsOfFields}
 use Rattle.arena_map.specs.Spelling.{map_line_text}
 use Rattle.arena_map.specs.Maps.{MapView, IsMap, solids_of, entities_of, dest_of, delay_of, lift_of}
 use Rattle.arena_map.specs.Rules.{bare_map, broken_by_arena, broken_rule, with_line}

@@ -13,8 +13,8 @@ pub mod MapLines
 pub mod Words
 pub mod Reading
 pub mod Spelling
-pub mod Causes
-pub mod Places
+pub mod TextFaults
+pub mod Positions
 pub mod Things
 pub mod Maps
 pub mod Rules

@@ -20,8 +20,8 @@ use Rattle.arena_map.specs.declared.lift.Lift.{Lift}
 use Rattle.arena_map.specs.declared.map_line.MapLine.{MapLine}
 use Rattle.arena_map.specs.MapLines.{IsWithinLimits, is_thing_line, is_item_line, is_teleport_line, is_goal_line}
 use Rattle.arena_map.specs.MapLines.{is_lift_line}
-use Rattle.arena_map.specs.Places.{is_wide, is_thick, is_player_inside, shaft_of, keeps_box, keeps_stand, keeps_item}
-use Rattle.arena_map.specs.Places.{keeps_travel}
+use Rattle.arena_map.specs.Positions.{is_wide, is_thick, is_player_inside, shaft_of, keeps_box, keeps_stand, keeps_item}
+use Rattle.arena_map.specs.Positions.{keeps_travel}
 use Rattle.arena_map.specs.Things.{records_from, dest_in, delay_in, lift_data}
 
 -- the arena, the blocks, the spawns, and the lines of items, teleporters, goals and lifts; how deep the tree of areanodes

@@ -79,27 +79,27 @@ corners_at rest = do
   Some (lo.0, hi.0, hi.1)
 
 -- the line, where nothing more is on it
-abbrev pub alone : MapLine → List ℕ → Option MapLine
-alone line [] = Some line
-alone line (b ∷ bytes) = None
+abbrev pub line_at_end : MapLine → List ℕ → Option MapLine
+line_at_end line [] = Some line
+line_at_end line (b ∷ bytes) = None
 
 -- the arena's corners
 abbrev pub arena_in : List ℕ → Option MapLine
 arena_in rest = do
   corners ← corners_at rest
-  alone (Arena corners.0 corners.1) corners.2
+  line_at_end (Arena corners.0 corners.1) corners.2
 
 -- a block's corners
 abbrev pub block_in : List ℕ → Option MapLine
 block_in rest = do
   corners ← corners_at rest
-  alone (Block corners.0 corners.1) corners.2
+  line_at_end (Block corners.0 corners.1) corners.2
 
 -- where players join
 abbrev pub spawn_in : List ℕ → Option MapLine
 spawn_in rest = do
   at ← point_at rest
-  alone (Spawn at.0) at.1
+  line_at_end (Spawn at.0) at.1
 
 -- where an item is, its kind, and after how many frames it returns: 1 to 65,535
 abbrev pub item_in : List ℕ → Option MapLine
@@ -107,20 +107,20 @@ item_in rest = do
   at ← point_at rest
   kind ← kind_at at.1
   delay ← count_at 65535 kind.1
-  alone (Item at.0 kind.0 delay.0) delay.1
+  line_at_end (Item at.0 kind.0 delay.0) delay.1
 
 -- a teleporter's corners, and where it moves players
 abbrev pub teleport_in : List ℕ → Option MapLine
 teleport_in rest = do
   corners ← corners_at rest
   dest ← point_at corners.2
-  alone (Teleport corners.0 corners.1 dest.0) dest.1
+  line_at_end (Teleport corners.0 corners.1 dest.0) dest.1
 
 -- a goal's corners
 abbrev pub goal_in : List ℕ → Option MapLine
 goal_in rest = do
   corners ← corners_at rest
-  alone (Goal corners.0 corners.1) corners.2
+  line_at_end (Goal corners.0 corners.1) corners.2
 
 -- a lift's corners at its lowest place, how far it rises: 1 to 1,048,576, and how far it moves in a frame: 1 to 2,560
 abbrev pub lift_in : List ℕ → Option MapLine
@@ -128,7 +128,7 @@ lift_in rest = do
   corners ← corners_at rest
   rise ← count_at 1048576 corners.2
   speed ← count_at 2560 rise.1
-  alone (Lift corners.0 corners.1 (pos rise.0) (pos speed.0)) speed.1
+  line_at_end (Lift corners.0 corners.1 (pos rise.0) (pos speed.0)) speed.1
 
 -- the number, where it is at least this
 abbrev pub at_least : ℕ → ℕ → Option ℕ
@@ -146,7 +146,7 @@ number_between least most rest = do
 abbrev pub depth_in : List ℕ → Option MapLine
 depth_in rest = do
   depth ← number_between LEAST_DEPTH MOST_DEPTH rest
-  alone (Depth depth.0) depth.1
+  line_at_end (Depth depth.0) depth.1
 
 -- the line with these fields, each number within its limit
 abbrev pub line_within : MapWord → List ℕ → Option MapLine
@@ -158,7 +158,7 @@ line_within words.Teleport rest = teleport_in rest
 line_within words.Goal rest = goal_in rest
 line_within words.Lift rest = lift_in rest
 line_within words.Depth rest = depth_in rest
-line_within words.Shots rest = alone Shots rest
+line_within words.Shots rest = line_at_end Shots rest
 
 -- ---- the line
 

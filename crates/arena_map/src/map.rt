@@ -10,7 +10,7 @@ ghost use Rattle.arena_map.specs.declared.limits.TheConstants.{MOST_THINGS};
 ghost use Rattle.arena_map.specs.declared.map_fault.MapFault.{MapFault};
 ghost use Rattle.arena_map.specs.declared.map_fault.MapRefusal.TheVariants.{Rule};
 ghost use Rattle.arena_map.specs.declared.map_line.MapLine.TheVariants.{Block, Spawn, Depth, Shots};
-ghost use Rattle.arena_map.specs.Places as places;
+ghost use Rattle.arena_map.specs.Positions as places;
 ghost use Rattle.arena_map.specs.Maps as maps;
 ghost use Rattle.arena_map.specs.Maps.{IsMap, IsSpawn, IsDelay, IsLift, solids_of, entities_of, has_thing};
 ghost use Rattle.arena_map.specs.MapLines as lines;
@@ -87,7 +87,7 @@ impl ArenaMap {
         if !is_wide(lo, hi) {
             return Err(MapRefusal::Rule(MapFault::Arena));
         }
-        let bounds = Aabb::between(lo, hi);
+        let bounds = Aabb::from_corners(lo, hi);
         let mut solids = Vec::with_capacity(alloc, WALLS)?;
         solids.extend_from_slice(&arena_walls(&bounds))?;
         Ok(ArenaMap {

@@ -5,7 +5,7 @@ ghost use Rattle.entity_recs.specs.Kinds.{is_item};
 ghost use Rattle.arena_map.specs.MapLines.{IsWithinLimits};
 ghost use Rattle.arena_map.specs.Reading as reading;
 ghost use Rattle.arena_map.specs.Spelling.{map_line_text};
-ghost use Rattle.arena_map.specs.Causes.{HasNoWord, HasNoForm, IsOutOfLimit};
+ghost use Rattle.arena_map.specs.TextFaults.{HasNoWord, HasNoForm, IsOutOfLimit};
 
 use crate::map_line::MapLine;
 use crate::map_word::{MapField, MapWord, item_kind};
@@ -116,8 +116,8 @@ fn corners_at(rest: &[u8]) -> Option<(Vec3, Vec3, &[u8])>
 }
 
 /// The line, where nothing more is on it.
-fn alone(line: MapLine, rest: &[u8]) -> Option<MapLine>
-    ensures value { result ≡ reading.alone line rest.now }
+fn line_at_end(line: MapLine, rest: &[u8]) -> Option<MapLine>
+    ensures value { result ≡ reading.line_at_end line rest.now }
     ensures limits { IsWithinLimits line → IfSome result IsWithinLimits }
 {
     if rest.is_empty() { Some(line) } else { None }
@@ -129,7 +129,7 @@ fn arena_in(rest: &[u8]) -> Option<MapLine>
     ensures limits { IfSome result IsWithinLimits }
 {
     let (lo, hi, rest) = corners_at(rest)?;
-    alone(MapLine::Arena { lo, hi }, rest)
+    line_at_end(MapLine::Arena { lo, hi }, rest)
 }
 
 /// A block's corners.
@@ -138,7 +138,7 @@ fn block_in(rest: &[u8]) -> Option<MapLine>
     ensures limits { IfSome result IsWithinLimits }
 {
     let (lo, hi, rest) = corners_at(rest)?;
-    alone(MapLine::Block { lo, hi }, rest)
+    line_at_end(MapLine::Block { lo, hi }, rest)
 }
 
 /// Where players join.
@@ -147,7 +147,7 @@ fn spawn_in(rest: &[u8]) -> Option<MapLine>
     ensures limits { IfSome result IsWithinLimits }
 {
     let (at, rest) = point_at(rest)?;
-    alone(MapLine::Spawn { at }, rest)
+    line_at_end(MapLine::Spawn { at }, rest)
 }
 
 /// Where an item is, its kind, and after how many frames it returns.
@@ -159,7 +159,7 @@ fn item_in(rest: &[u8]) -> Option<MapLine>
     let (kind, rest) = kind_at(rest)?;
     let (delay, rest) = count_at(rest, LONGEST_DELAY)?;
     let delay = delay as u16;
-    alone(MapLine::Item { at, kind, delay }, rest)
+    line_at_end(MapLine::Item { at, kind, delay }, rest)
 }
 
 /// A teleporter's corners, and where it moves players.
@@ -169,7 +169,7 @@ fn teleport_in(rest: &[u8]) -> Option<MapLine>
 {
     let (lo, hi, rest) = corners_at(rest)?;
     let (dest, rest) = point_at(rest)?;
-    alone(MapLine::Teleport { lo, hi, dest }, rest)
+    line_at_end(MapLine::Teleport { lo, hi, dest }, rest)
 }
 
 /// A goal's corners.
@@ -178,7 +178,7 @@ fn goal_in(rest: &[u8]) -> Option<MapLine>
     ensures limits { IfSome result IsWithinLimits }
 {
     let (lo, hi, rest) = corners_at(rest)?;
-    alone(MapLine::Goal { lo, hi }, rest)
+    line_at_end(MapLine::Goal { lo, hi }, rest)
 }
 
 /// A lift's corners at its lowest place, how far it rises, and how far it moves in a frame.
@@ -190,7 +190,7 @@ fn lift_in(rest: &[u8]) -> Option<MapLine>
     let (rise, rest) = count_at(rest, HIGHEST_RISE)?;
     let (speed, rest) = count_at(rest, FASTEST)?;
     let (rise, speed) = (rise as i32, speed as i32);
-    alone(
+    line_at_end(
         MapLine::Lift {
             lo,
             hi,
@@ -221,7 +221,7 @@ fn depth_in(rest: &[u8]) -> Option<MapLine>
     ensures limits { IfSome result IsWithinLimits }
 {
     let (depth, rest) = number_between(rest, LEAST_DEPTH, MOST_DEPTH)?;
-    alone(MapLine::Depth(depth), rest)
+    line_at_end(MapLine::Depth(depth), rest)
 }
 
 /// The line with these fields, where each number is within its limit.
@@ -238,7 +238,7 @@ fn line_within(word: MapWord, rest: &[u8]) -> Option<MapLine>
         MapWord::Goal => goal_in(rest),
         MapWord::Lift => lift_in(rest),
         MapWord::Depth => depth_in(rest),
-        MapWord::Shots => alone(MapLine::Shots, rest),
+        MapWord::Shots => line_at_end(MapLine::Shots, rest),
     }
 }
 
@@ -254,7 +254,7 @@ pub fn read_map_line(line: &[u8]) -> Result<MapLine, u8>
     ensures limits { IfOk result IsWithinLimits }
     ensures found { IfOk result (λ l. line.now ≡ map_line_text l) }
     ensures only { (l : MapLine) → IsWithinLimits l → line.now ≡ map_line_text l → result ≡ Ok l }
-    // Each fault comes exactly where it is the cause.
+    // Each fault comes exactly where its rule is the first that is broken.
     ensures no_word { (result ≡ Err 3) ↔ HasNoWord line.now }
     ensures no_form { (result ≡ Err 4) ↔ HasNoForm line.now }
     ensures out_of_limit { (result ≡ Err 6) ↔ IsOutOfLimit line.now }

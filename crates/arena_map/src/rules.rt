@@ -2,7 +2,7 @@ ghost use Rattle.std.specs.Prelude.{◌≡◌, ◌≤◌, ◌≤ℤ◌, true, po
 ghost use Rattle.arena_geo.specs.Vectors.{IsNear};
 ghost use Rattle.arena_geo.specs.Bounds.{bounds};
 ghost use Rattle.arena_map.specs.MapLines.{IsWithinLimits};
-ghost use Rattle.arena_map.specs.Places as places;
+ghost use Rattle.arena_map.specs.Positions as places;
 
 use crate::limits::LEAST_SIDE;
 use crate::map_line::MapLine;
@@ -41,7 +41,7 @@ pub fn box_between(lo: Vec3, hi: Vec3) -> Aabb
     requires thick { places.is_thick lo hi ≡ true }
     ensures { result ≡ bounds lo hi }
 {
-    Aabb::between(lo, hi)
+    Aabb::from_corners(lo, hi)
 }
 
 /// Whether the box between the corners has an inside and is inside the arena.
@@ -66,7 +66,7 @@ fn item_box(at: Vec3) -> Aabb
     requires { IsNear 1048576 at }
     ensures { result ≡ places.item_body at }
 {
-    Aabb::between(at + ITEM_MINS, at + ITEM_MAXS)
+    Aabb::from_corners(at + ITEM_MINS, at + ITEM_MAXS)
 }
 
 /// So far up, in sub-units.
@@ -81,12 +81,12 @@ fn upwards(rise: i32) -> Vec3
 }
 
 /// A lift's box at its highest place.
-fn raised(lo: Vec3, hi: Vec3, rise: i32) -> Aabb
+fn box_at_the_top(lo: Vec3, hi: Vec3, rise: i32) -> Aabb
     requires lo { IsNear 1048576 lo }
     requires hi { IsNear 1048576 hi }
     requires thick { places.is_thick lo hi ≡ true }
     requires rise { unsigned_abs rise ≤ 1048576 }
-    ensures { result ≡ places.raised lo hi rise }
+    ensures { result ≡ places.box_at_the_top lo hi rise }
 {
     box_between(lo, hi).shifted(upwards(rise))
 }
@@ -100,7 +100,7 @@ pub fn shaft(lo: Vec3, hi: Vec3, rise: i32) -> Aabb
     requires most { rise ≤ℤ pos 1048576 }
     ensures { result ≡ places.shaft lo hi rise }
 {
-    Aabb::between(lo, hi + upwards(rise))
+    Aabb::from_corners(lo, hi + upwards(rise))
 }
 
 /// Rule 2: a block, teleporter, goal or lift has an inside, and is inside the arena.
@@ -150,7 +150,7 @@ pub fn keeps_travel(arena: &Aabb, l: &MapLine) -> bool
     ensures { result ≡ places.keeps_travel arena.now l.now }
 {
     match *l {
-        MapLine::Lift { lo, hi, rise, .. } => arena.contains(&raised(lo, hi, rise)),
+        MapLine::Lift { lo, hi, rise, .. } => arena.contains(&box_at_the_top(lo, hi, rise)),
         _ => true,
     }
 }

@@ -1,6 +1,6 @@
 ghost use Rattle.std.specs.Prelude.{◌≡◌, ◌+◌, ◌<◌, ◌++◌, true, vec_len, vec_capacity, option_to_list};
 ghost use Rattle.arena_map.specs.MapLines.{IsWithinLimits, is_thing_line};
-ghost use Rattle.arena_map.specs.Places as places;
+ghost use Rattle.arena_map.specs.Positions as places;
 ghost use Rattle.arena_map.specs.Things as things;
 
 use crate::lift::Lift;

@@ -7,12 +7,12 @@ use Rattle.std.proofs.lemmas.List.Elements.{Contains-append_right}
 use Rattle.std.proofs.lemmas.List.Folds.{Any-from_list_any, list_any_at}
 use Rattle.arena_geo.specs.declared.vec3.Vec3.{Vec3}
 use Rattle.arena_geo.specs.Bounds.{Bounds}
-use Rattle.arena_geo.specs.Boxes.{overlaps_on, overlaps, moved, is_blocked}
+use Rattle.arena_geo.specs.Boxes.{overlaps_on, overlaps, box_moved_by, is_blocked}
 use Rattle.arena_geo.proofs.Containment.{three_pass, all_three}
 use Rattle.entity_recs.specs.declared.bodies.TheConstants.{PLAYER_MINS, PLAYER_MAXS}
 use Rattle.entity_recs.specs.declared.rec.Rec.{Rec}
 use Rattle.entity_recs.specs.Records.{HasCorners}
-use Rattle.entity_recs.specs.Bodies.{standing, body_of, player_body}
+use Rattle.entity_recs.specs.Bodies.{box_at_origin, body_of, player_body}
 use Rattle.entity_recs.specs.Commands.{Command}
 use Rattle.entity_recs.proofs.Ids.{player_shape}
 use Rattle.player_move.specs.Walks.{downwards, ground_of}
@@ -23,7 +23,7 @@ use Rattle.trigger_rules.specs.Laws.{IsPlayerOn}
 use Rattle.trigger_rules.proofs.Taken.{stay_themselves, leaps_free, only_leaps}
 use Rattle.trigger_rules.proofs.Doing.{teleporters_blocked}
 use Rattle.trigger_rules.proofs.Leaping.{leaps_from_teleporters}
-use Rattle.arena_outcomes.specs.Outcomes.{asked, flags_of, moved_among, outcome_in}
+use Rattle.arena_outcomes.specs.Outcomes.{intent_of_command, flags_of, moved_among, outcome_in}
 use Rattle.arena_outcomes.specs.Flags.{IsUnder, IsFreeTeleporter, AreFlagsOf, FlagsAreKnown}
 
 -- ---- bit 0
@@ -48,7 +48,7 @@ of_down at lo hi high low = grind (arith, ints)
 
 -- a player's body at this origin, 1 lower
 abbrev lowered : Vec3 → Bounds
-lowered at = moved (player_body at) (downwards 1)
+lowered at = box_moved_by (player_body at) (downwards 1)
 
 under_of : (me : Rec) (solid : Bounds) → overlaps (lowered me.origin) solid ≡ true → IsUnder me solid
 under_of me solid h =
@@ -67,14 +67,14 @@ of_under me solid under =
 
 -- the body of a record with a player's corners
 player_is : (me : Rec) → HasCorners PLAYER_MINS PLAYER_MAXS me.mins me.maxs → body_of me ≡ player_body me.origin
-player_is me corners = λ i. standing me.origin (corners.low_is i) (corners.high_is i)
+player_is me corners = λ i. box_at_origin me.origin (corners.low_is i) (corners.high_is i)
 
 -- the ground test of a player says that some solid is under it
 module _ (me : Rec) (solids : List Bounds) (corners : HasCorners PLAYER_MINS PLAYER_MAXS me.mins me.maxs) where
   ground_any : ground_of (body_of me) solids ≡ true → Any (IsUnder me) solids
   unfolding ground_of
   ground_any h =
-      let low = subst (λ (b : Bounds). is_blocked (moved b (downwards 1)) solids ≡ true) (player_is me corners) h in
+      let low = subst (λ (b : Bounds). is_blocked (box_moved_by b (downwards 1)) solids ≡ true) (player_is me corners) h in
       let any = Any-from_list_any (overlaps (lowered me.origin)) solids low in
       (any.0, any.1, any.2, any.3, under_of me any.1 any.4)
 
@@ -82,7 +82,7 @@ module _ (me : Rec) (solids : List Bounds) (corners : HasCorners PLAYER_MINS PLA
   unfolding ground_of
   any_ground any =
       let low = list_any_at (overlaps (lowered me.origin)) solids any.0 any.1 any.2 (ap (overlaps (lowered me.origin)) any.3 ∙ of_under me any.1 any.4) in
-      subst (λ (b : Bounds). is_blocked (moved b (downwards 1)) solids ≡ true) (sym (player_is me corners)) low
+      subst (λ (b : Bounds). is_blocked (box_moved_by b (downwards 1)) solids ≡ true) (sym (player_is me corners)) low
 
 -- ---- the two bits of a number
 
@@ -139,7 +139,7 @@ module _ (arena : MapView) (me : Rec) (near : List Rec) (c : Command) (on : IsPl
 
   there_flags : there.flags ≡ flags_of ground
   unfolding moved_among
-  there_flags = ap flags_of (ground_is_tested me (asked c) (solids_among arena near))
+  there_flags = ap flags_of (ground_is_tested me (intent_of_command c) (solids_among arena near))
 
   by_ground : (flags : ℕ) → (flags % 2 ≡ 1 → ground ≡ true) → (ground ≡ true → flags % 2 ≡ 1)
       → (flags % 2 ≡ 1) ↔ Any (IsUnder me) (solids_among arena near)

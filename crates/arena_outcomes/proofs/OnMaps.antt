@@ -23,7 +23,7 @@ use Rattle.trigger_rules.specs.Laws.{IsTaken, AreTaken, IsPlayerOn, is_same_reco
 use Rattle.shot_rules.specs.Shots.{is_down, is_fired, after_shot}
 use Rattle.shot_rules.specs.Laws.{IsShot, Misses, Hits}
 use Rattle.shot_rules.proofs.Hits.{firing, stay_shooters, are_in_the_way, unfired_is}
-use Rattle.arena_outcomes.specs.Outcomes.{moved_among, effect_of, outcome_in, risen, lying, shooting_in, shot_outcome, outcome_on}
+use Rattle.arena_outcomes.specs.Outcomes.{moved_among, effect_of, outcome_in, player_after_rising, player_while_down, shooting_in, shot_outcome, outcome_on}
 use Rattle.arena_outcomes.specs.Regions.{region_in, shot_region}
 use Rattle.arena_outcomes.specs.ShotLaws.{IsLying, DownPlayersLie, DownPlayersRise, ShotsFollowMoves, MapsDecide, IsMoverAfter, MoversStayThemselves, MoversStayOnMaps, MoversStayFree, HasFewInOrder, RepliesAreShort}
 use Rattle.arena_outcomes.proofs.Lawful.Moves.{stay_on_maps, keep_who_moves, stay_free, take_what_is_there, new_states_apart, replied_rise}
@@ -58,14 +58,14 @@ down_lie arena me near c frame is before =
     })
 
 -- who rises has no damage
-risen_is : (me : Rec) (frame : ℕ) → me.state ≡ 100 + frame → risen me ≡ with_state me 0
+risen_is : (me : Rec) (frame : ℕ) → me.state ≡ 100 + frame → player_after_rising me ≡ with_state me 0
 risen_is me frame is = ap (λ (t : Bool). with_state me (cond t 0 me.state)) (above me.state frame is)
   where
     above : (state frame : ℕ) → state ≡ 100 + frame → nat_le 100 state ≡ true
     above state frame e = grind (arith, nat_tests)
 
 -- and who has little keeps it
-stands_is : (me : Rec) → me.state < 100 → risen me ≡ me
+stands_is : (me : Rec) → me.state < 100 → player_after_rising me ≡ me
 stands_is me few = ap (λ (t : Bool). with_state me (cond t 0 me.state)) (below me.state few)
   where
     below : (state : ℕ) → state < 100 → nat_le 100 state ≡ false
@@ -116,8 +116,8 @@ decide = record {
 -- a move on a map is a plain one; or on a map with shots its player is down; or it moves and may shoot
 pub data IsMove (arena : MapView) (me : Rec) (near : List Rec) (c : Command) (e : Effect) : Type 0 where
   IsPlain : arena.shots ≡ false → e ≡ outcome_in arena me near c → IsMove arena me near c e
-  Lies : arena.shots ≡ true → e ≡ effect_of (first_walk (lying me c.seq)) → IsMove arena me near c e
-  Shoots : arena.shots ≡ true → e ≡ shooting_in arena (risen me) near c → IsMove arena me near c e
+  Lies : arena.shots ≡ true → e ≡ effect_of (first_walk (player_while_down me c.seq)) → IsMove arena me near c e
+  Shoots : arena.shots ≡ true → e ≡ shooting_in arena (player_after_rising me) near c → IsMove arena me near c e
 
 pub is_move : (arena : MapView) (me : Rec) (near : List Rec) (c : Command) → IsMove arena me near c (outcome_on arena me near c)
 unfolding shot_outcome
@@ -156,7 +156,7 @@ stay_movers arena me near c = by (outcome_on arena me near c) (is_move arena me 
     by e (IsPlain none is) = subst (IsMoverAfter me c.seq) (sym is) (after_plain arena me near c)
     by e (Lies some is) = subst (IsMoverAfter me c.seq) (sym is) (record { id = refl; kind = refl; mins = refl; maxs = refl; seq = refl; origin = refl })
     by e (Shoots some is) =
-        let after = after_shooting arena (risen me) near c in
+        let after = after_shooting arena (player_after_rising me) near c in
         subst (IsMoverAfter me c.seq) (sym is) (record {
           id = after.id;
           kind = after.kind;
@@ -179,8 +179,8 @@ free_movers arena me near c on free = by (outcome_on arena me near c) (is_move a
     by e (Lies some is) = ap (λ (x : Effect). is_blocked (body_of x.me) (solids_among arena near)) is ∙ free
     by e (Shoots some is) =
         ap (λ (x : Effect). is_blocked (body_of x.me) (solids_among arena near)) is
-        ∙ ap (λ (b : Bounds). is_blocked b (solids_among arena near)) (body_after_shooting arena (risen me) near c)
-        ∙ stay_free arena (risen me) near c (on_in_state arena me (cond (nat_le 100 me.state) 0 me.state) on) free
+        ∙ ap (λ (b : Bounds). is_blocked b (solids_among arena near)) (body_after_shooting arena (player_after_rising me) near c)
+        ∙ stay_free arena (player_after_rising me) near c (on_in_state arena me (cond (nat_le 100 me.state) 0 me.state) on) free
 
 pub movers_stay_on : MoversStayOnMaps
 unfolding outcome_in
@@ -190,10 +190,10 @@ movers_stay_on arena me near c is_map on = by (outcome_on arena me near c) (is_m
     by e (IsPlain none is) = subst (λ (x : Effect). IsPlayerOn arena x.me) (sym is) (stay_on_maps arena me near c is_map on)
     by e (Lies some is) = subst (λ (x : Effect). IsPlayerOn arena x.me) (sym is) (lying_on arena me c.seq on)
     by e (Shoots some is) =
-        let w = touched arena c.frame (moved_among arena (risen me) near c) near in
+        let w = touched arena c.frame (moved_among arena (player_after_rising me) near c) near in
         subst (λ (x : Effect). IsPlayerOn arena x.me) (sym is)
-        (shooter_on arena w.me (shooting_in arena (risen me) near c).me (stay_shooters (solids_of arena) near c w)
-        (stay_on_maps arena (risen me) near c is_map (on_in_state arena me (cond (nat_le 100 me.state) 0 me.state) on)))
+        (shooter_on arena w.me (shooting_in arena (player_after_rising me) near c).me (stay_shooters (solids_of arena) near c w)
+        (stay_on_maps arena (player_after_rising me) near c is_map (on_in_state arena me (cond (nat_le 100 me.state) 0 me.state) on)))
 
 -- ---- replies
 
@@ -276,7 +276,7 @@ short_replies arena me near c records rise = by (outcome_on arena me near c) (is
     by : (e : Effect) → IsMove arena me near c e → HasFewInOrder e
     by e (IsPlain none is) = subst HasFewInOrder (sym is) (plain_is_short arena me near c records rise)
     by e (Lies some is) = subst HasFewInOrder (sym is) (record { few = omega arith; rising = λ k below. absurd (omega (arith, below)); apart = tt })
-    by e (Shoots some is) = subst HasFewInOrder (sym is) (shooting_reply arena (risen me) near c records rise)
+    by e (Shoots some is) = subst HasFewInOrder (sym is) (shooting_reply arena (player_after_rising me) near c records rise)
 
 -- ---- tests
 

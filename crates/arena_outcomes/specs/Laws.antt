@@ -6,7 +6,7 @@ use Rattle.std.specs.List.Sorted.{IsStrictlyIncreasing}
 use Rattle.arena_geo.specs.declared.vec3.Vec3.{Vec3}
 use Rattle.arena_geo.specs.Vectors.{vector}
 use Rattle.arena_geo.specs.Bounds.{Bounds}
-use Rattle.arena_geo.specs.Boxes.{is_blocked, touches, contains, grown}
+use Rattle.arena_geo.specs.Boxes.{is_blocked, touches, contains, box_grown_by}
 use Rattle.entity_recs.specs.declared.effect.Effect.{Effect}
 use Rattle.entity_recs.specs.declared.kind.Kind.TheVariants.{Teleporter}
 use Rattle.entity_recs.specs.declared.rec.Rec.{Rec}
@@ -17,7 +17,7 @@ use Rattle.player_move.specs.declared.moved.Moved.{Moved}
 use Rattle.player_move.specs.Moves.{move_of}
 use Rattle.trigger_rules.specs.Touching.{touched_by, solids_among, Walk, touched}
 use Rattle.trigger_rules.specs.Laws.{IsPlayerOn, AreTaken, is_same_record}
-use Rattle.arena_outcomes.specs.Outcomes.{asked, flags_of, after_move, moved_among, outcome_in}
+use Rattle.arena_outcomes.specs.Outcomes.{intent_of_command, flags_of, after_move, moved_among, outcome_in}
 use Rattle.arena_outcomes.specs.Regions.{region_in, shot_region}
 
 -- a player on a map is one after its move
@@ -58,7 +58,7 @@ pub record IsMoveAlone (me : Rec) (moved : Moved) (effect : Effect) : Type 0 whe
 abbrev pub MovesAreMade : Type 0
 MovesAreMade =
     (arena : MapView) (me : Rec) (near : List Rec) (c : Command)
-    → let moved = move_of me (asked c) (solids_among arena near) in
+    → let moved = move_of me (intent_of_command c) (solids_among arena near) in
     touched_by (after_move me moved c.seq) near ≡ []
     → IsMoveAlone me moved (outcome_in arena me near c)
 
@@ -72,7 +72,7 @@ pub record IsWhereItMoved (moved : Moved) (after : Rec) : Type 0 where
 abbrev pub PlayersAreWhereTheyMoved : Type 0
 PlayersAreWhereTheyMoved =
     (arena : MapView) (me : Rec) (near : List Rec) (c : Command)
-    → let moved = move_of me (asked c) (solids_among arena near) in
+    → let moved = move_of me (intent_of_command c) (solids_among arena near) in
     All (λ r. r.kind ≢ Teleporter) (touched_by (after_move me moved c.seq) near)
     → IsWhereItMoved moved (outcome_in arena me near c).me
 
@@ -87,7 +87,7 @@ pub record IsEffectOf (w : Walk) (effect : Effect) : Type 0 where
 abbrev pub TouchingFollowsMoves : Type 0
 TouchingFollowsMoves =
     (arena : MapView) (me : Rec) (near : List Rec) (c : Command)
-    → let moved = move_of me (asked c) (solids_among arena near) in
+    → let moved = move_of me (intent_of_command c) (solids_among arena near) in
     IsEffectOf (touched arena c.frame (after_move me moved c.seq) near) (outcome_in arena me near c)
 
 -- a player whose body overlaps no solid before its move overlaps none after it
@@ -133,7 +133,7 @@ farthest_on speed ms = min 512000 (unsigned_abs speed + 81920) * ms / 1000
 -- much more on z
 abbrev pub box_around : Rec → ℕ → ℕ → ℕ → Bounds
 box_around me ms flat high =
-    grown (abs_of me) (vector
+    box_grown_by (abs_of me) (vector
     (pos (farthest_on me.vel.x ms + flat)) (pos (farthest_on me.vel.y ms + flat))
     (pos (farthest_on me.vel.z ms + high)))
 
@@ -146,7 +146,7 @@ pub data IsNearPlayer (room : ℕ) (arena : MapView) (me : Rec) (ms : ℕ) (box 
   IsLanding : (teleporter : Rec) (dest : Vec3) → Contains (entities_of arena) teleporter
       → dest_of arena teleporter.id ≡ Some dest
       → touches (abs_of teleporter) (box_around me ms 256 4864) ≡ true
-      → contains (grown (abs_of (record me { origin = dest })) (vector (pos 16384) (pos 16384) (pos 16384))) box ≡ true
+      → contains (box_grown_by (abs_of (record me { origin = dest })) (vector (pos 16384) (pos 16384) (pos 16384))) box ≡ true
       → IsNearPlayer room arena me ms box
 
 -- each box of the region of a move is near its player

@@ -16,8 +16,8 @@ use Rattle.shot_rules.specs.declared.numbers.TheConstants.{DOWN}
 use Rattle.shot_rules.specs.Shots.{is_down, after_shot}
 
 -- what a command asks of a move
-abbrev pub asked : Command → Intent
-asked c = record { ms = c.ms; wish_x = c.wish_x; wish_y = c.wish_y; buttons = c.buttons }
+abbrev pub intent_of_command : Command → Intent
+intent_of_command c = record { ms = c.ms; wish_x = c.wish_x; wish_y = c.wish_y; buttons = c.buttons }
 
 -- the flags after a move: bit 0 says that it began on the ground
 abbrev pub flags_of : Bool → ℕ
@@ -30,7 +30,7 @@ after_move me moved seq = record me { origin = moved.origin; vel = moved.vel; fl
 
 -- the player after its move among the solids of the map and of these records, before it touches anything
 unfoldable pub moved_among : MapView → Rec → List Rec → Command → Rec
-moved_among map me near c = after_move me (move_of me (asked c) (solids_among map near)) c.seq
+moved_among map me near c = after_move me (move_of me (intent_of_command c) (solids_among map near)) c.seq
 
 -- what a walk over what a player touches does, and the reply to the move
 abbrev pub effect_of : Walk → Effect
@@ -43,12 +43,12 @@ outcome_in map me near c = effect_of (touched map c.frame (moved_among map me ne
 -- ---- with shots
 
 -- who was down, and isn't any more, has no damage
-abbrev pub risen : Rec → Rec
-risen me = with_state me (if nat_le DOWN me.state then 0 else me.state)
+abbrev pub player_after_rising : Rec → Rec
+player_after_rising me = with_state me (if nat_le DOWN me.state then 0 else me.state)
 
 -- who is down after the command with this number: it stays where it is, at rest, and drops what it carries
-abbrev pub lying : Rec → ℕ → Rec
-lying me seq = record me { vel = zero_vector; flags = 0; carry = 0; seq = seq }
+abbrev pub player_while_down : Rec → ℕ → Rec
+player_while_down me seq = record me { vel = zero_vector; flags = 0; carry = 0; seq = seq }
 
 -- what the move of a player does that isn't down, among all other live records in rising id: it moves, touches what it
 -- has come to, and fires, if it does
@@ -59,7 +59,7 @@ shooting_in map me near c =
 -- what a move does in an arena where players shoot: one that is down does nothing
 unfoldable pub shot_outcome : MapView → Action
 shot_outcome map me near c =
-    if is_down me c.frame then effect_of (first_walk (lying me c.seq)) else shooting_in map (risen me) near c
+    if is_down me c.frame then effect_of (first_walk (player_while_down me c.seq)) else shooting_in map (player_after_rising me) near c
 
 -- ---- what a move does on a map
 

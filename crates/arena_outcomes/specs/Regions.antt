@@ -4,7 +4,7 @@ use Rattle.std.specs.Option.{option_map}
 use Rattle.arena_geo.specs.declared.vec3.Vec3.{Vec3}
 use Rattle.arena_geo.specs.Vectors.{vector}
 use Rattle.arena_geo.specs.Bounds.{Bounds}
-use Rattle.arena_geo.specs.Boxes.{touches, grown}
+use Rattle.arena_geo.specs.Boxes.{touches, box_grown_by}
 use Rattle.entity_recs.specs.declared.rec.Rec.{Rec}
 use Rattle.entity_recs.specs.Bodies.{abs_of}
 use Rattle.entity_recs.specs.Commands.{Command}
@@ -20,7 +20,7 @@ reach_growth me ms =
 
 -- the reach of a move: where the player's absolute box may come without a leap
 abbrev pub reach_of : Rec → ℕ → Bounds
-reach_of me ms = grown (abs_of me) (reach_growth me ms)
+reach_of me ms = box_grown_by (abs_of me) (reach_growth me ms)
 
 -- so much on each axis
 abbrev pub room_of : ℕ → Vec3
@@ -28,7 +28,7 @@ room_of room = vector (pos room) (pos room) (pos room)
 
 -- the reach with so much room around it
 abbrev pub first_box : ℕ → Rec → ℕ → Bounds
-first_box room me ms = grown (reach_of me ms) (room_of room)
+first_box room me ms = box_grown_by (reach_of me ms) (room_of room)
 
 -- the player at another place
 abbrev pub elsewhere : Rec → Vec3 → Rec
@@ -36,7 +36,7 @@ elsewhere me origin = record me { origin = origin }
 
 -- the room around the player's absolute box at this place
 abbrev pub landing_at : Rec → Vec3 → Bounds
-landing_at me dest = grown (abs_of (elsewhere me dest)) (room_of ROOM)
+landing_at me dest = box_grown_by (abs_of (elsewhere me dest)) (room_of ROOM)
 
 -- the room at the destination of a thing of the map, if it is a teleporter whose absolute box touches the reach
 abbrev pub landing_of : MapView → Rec → Bounds → Rec → Option Bounds

@@ -6,7 +6,7 @@ use Rattle.arena_geo.specs.declared.vec3.Vec3.{Vec3}
 use Rattle.box_trace.proofs.Straight.{share_at}
 use Rattle.packet_read.specs.declared.arrival.Arrival.{Arrival}
 use Rattle.bot_ways.specs.Edges.{distance}
-use Rattle.bot_ways.specs.Moves.{places_of, wish_along, move_towards, moves_between, move_frame, frames_between, frames_through}
+use Rattle.bot_ways.specs.Moves.{waypoint_points, wish_along, move_towards, moves_between, move_frame, frames_between, frames_through}
 use Rattle.bot_ways.specs.BotMoves.{IsWishFor, LeadsTowards, HasMoveTowards, LeadFrom, LeadThrough, nowhere, there, further, BotsFollowTheirWays}
 
 -- ---- a move
@@ -77,7 +77,7 @@ through seq (a ∷ b ∷ more) =
 
 pub bots_follow_their_ways : BotsFollowTheirWays
 bots_follow_their_ways m way = record {
-  moves = frames_through 1 (places_of m way);
+  moves = frames_through 1 (waypoint_points m way);
   joins = refl;
-  lead = through 1 (places_of m way);
+  lead = through 1 (waypoint_points m way);
 }

@@ -8,7 +8,7 @@ use Rattle.std.proofs.lemmas.Option.{none-some, same_Some, slice_get_within}
 use Rattle.arena_geo.specs.declared.vec3.Vec3.{Vec3}
 use Rattle.arena_geo.specs.Vectors.{IsNear, plus, minus}
 use Rattle.arena_geo.specs.Bounds.{Bounds, IsInRange}
-use Rattle.arena_geo.specs.Boxes.{moved}
+use Rattle.arena_geo.specs.Boxes.{box_moved_by}
 use Rattle.entity_recs.specs.declared.bodies.TheConstants.{PLAYER_MINS, PLAYER_MAXS}
 use Rattle.entity_recs.specs.Bodies.{player_body}
 use Rattle.arena_map.specs.Maps.{MapView, solids_of}
@@ -87,7 +87,7 @@ at_end a b m far body = record {
 }
 
 -- a body at one point that is moved to another is in range
-pub end_in_range : (a b : Vec3) → IsNear 1048576 b → IsInRange (moved (player_body a) (minus b a))
+pub end_in_range : (a b : Vec3) → IsNear 1048576 b → IsInRange (box_moved_by (player_body a) (minus b a))
 end_in_range a b far = record {
   lo = at_end a b PLAYER_MINS far (record { x = lit≤ tt; y = lit≤ tt; z = lit≤ tt });
   hi = at_end a b PLAYER_MAXS far (record { x = lit≤ tt; y = lit≤ tt; z = lit≤ tt });

@@ -13,14 +13,14 @@ use Rattle.arena_map.specs.declared.map_line.MapLine.TheVariants.{Spawn}
 use Rattle.arena_map.specs.Maps.{MapView}
 use Rattle.arena_map.specs.Spelling.{map_line_text}
 use Rattle.packet_read.specs.declared.packet.Packet.{Packet}
-use Rattle.packet_read.specs.declared.packet.Packet.TheVariants.{Join, Step, Leave, Steps}
+use Rattle.packet_read.specs.declared.packet.Packet.TheVariants.{Join, Move, Leave, Moves}
 use Rattle.packet_read.specs.Spelling.{spelling}
 use Rattle.packet_read.specs.declared.arrival.Arrival.{Arrival}
 use Rattle.demo_lines.specs.declared.line.Line.{Line}
 use Rattle.demo_lines.specs.declared.line.Line.TheVariants.{OfMap, End}
 use Rattle.demo_lines.specs.Spelling.{packet_text, line_text, arena_line, frame_lines, shots_lines_of}
 use Rattle.bot_ways.specs.declared.plan.Plan.{Plan}
-use Rattle.bot_ways.specs.Moves.{places_of, length_through, frame_of, move_frame, frames_through, bot_frames}
+use Rattle.bot_ways.specs.Moves.{waypoint_points, length_through, frame_of, move_frame, frames_through, bot_frames}
 use Rattle.bot_ways.specs.PlanTexts.{frame_text, frames_text, lines_text, block_of, depth_lines_of, depth_text, shots_text, blocks_text, spawns_text, things_text, added_lines, map_text, walk_text, way_line, length_line, least_line, plan_text}
 
 -- ---- pieces of a list
@@ -43,9 +43,9 @@ lines_with g xs = lines_text (map g xs)
 
 spelled : (packet : Packet) → packet_text (spelling packet) ≡ encode_lower (spelling packet)
 spelled Join = refl
-spelled (Step m) = refl
+spelled (Move m) = refl
 spelled Leave = refl
-spelled (Steps s) = refl
+spelled (Moves s) = refl
 
 -- the two lines of a frame
 pub frame_text-is : (packet : Packet) → frame_text (frame_of packet) ≡ codes "frame\nfrom 1 " ++ (encode_lower (spelling packet) ++ 10 ∷ [])
@@ -115,16 +115,16 @@ walk-parts m way =
 
 -- the whole text, as it is put together
 pub plan-parts : (m : MapView) (plan : Plan)
-    → (((((map_text m ++ frame_text (frame_of Join)) ++ frames_text (frames_through 1 (places_of m plan.way))) ++ codes "end\n")
-    ++ way_line plan.way) ++ length_line (length_through (places_of m plan.way))) ++ least_line plan.least
+    → (((((map_text m ++ frame_text (frame_of Join)) ++ frames_text (frames_through 1 (waypoint_points m plan.way))) ++ codes "end\n")
+    ++ way_line plan.way) ++ length_line (length_through (waypoint_points m plan.way))) ++ least_line plan.least
     ≡ plan_text m plan
 unfolding plan_text
 plan-parts m plan =
     let joins = frame_text (frame_of Join) in
-    let walks = frames_text (frames_through 1 (places_of m plan.way)) in
+    let walks = frames_text (frames_through 1 (waypoint_points m plan.way)) in
     let ends = codes "end\n" in
     let way = way_line plan.way in
-    let far = length_line (length_through (places_of m plan.way)) in
+    let far = length_line (length_through (waypoint_points m plan.way)) in
     let least = least_line plan.least in
     let recorded : ((map_text m ++ joins) ++ walks) ++ ends ≡ walk_text m plan.way =
     ap (λ t. t ++ ends) (append_assoc (map_text m) joins walks) ∙ append_assoc (map_text m) (joins ++ walks) ends ∙ sym (walk-parts m plan.way) in

@@ -11,7 +11,7 @@ use Rattle.arena_geo.specs.Boxes.{overlaps, is_blocked}
 use Rattle.arena_map.specs.declared.limits.TheConstants.{DEFAULT_DEPTH, MOST_BLOCKS, MOST_BOXES, MOST_ITEMS, MOST_SPAWNS}
 use Rattle.arena_map.specs.declared.map_line.MapLine.{MapLine}
 use Rattle.arena_map.specs.declared.map_line.MapLine.TheVariants.{Arena, Block, Spawn, Item, Teleport, Goal, Lift, Depth, Shots}
-use Rattle.arena_map.specs.Places.{shaft_of}
+use Rattle.arena_map.specs.Positions.{shaft_of}
 use Rattle.arena_map.specs.MapLines.{IsWithinLimits, is_added, is_thing_line, is_item_line, is_teleport_line, is_goal_line, is_lift_line}
 use Rattle.arena_map.specs.Maps.{MapView, plain_map, IsMap, IsBlock, IsSpawn, IsThingInside, shafts_of}
 use Rattle.arena_map.specs.Rules.{with_line, with_block, with_spawn, with_thing}

@@ -10,12 +10,12 @@ use Rattle.edge_io.specs.Fields.{field_text}
 use Rattle.arena_geo.specs.declared.vec3.Vec3.{Vec3}
 use Rattle.arena_map.specs.Maps.{MapView, IsMap}
 use Rattle.packet_read.specs.declared.packet.Packet.{Packet}
-use Rattle.packet_read.specs.declared.packet.Packet.TheVariants.{Join, Step}
+use Rattle.packet_read.specs.declared.packet.Packet.TheVariants.{Join, Move}
 use Rattle.packet_read.specs.Spelling.{spelling}
 use Rattle.bot_ways.specs.declared.plan.Plan.{Plan}
 use Rattle.bot_ways.specs.Walks.{IsWalk, alone, longer, length_to}
 use Rattle.bot_ways.specs.Ways.{IsCertificate}
-use Rattle.bot_ways.specs.Moves.{places_of, length_through, move_towards, moves_between, frame_of, move_frame, frames_between, frames_through, bot_frames}
+use Rattle.bot_ways.specs.Moves.{waypoint_points, length_through, move_towards, moves_between, frame_of, move_frame, frames_between, frames_through, bot_frames}
 use Rattle.bot_ways.specs.PlanTexts.{IsPlan, frame_text, frames_text, map_text, walk_text, way_line, length_line, least_field, least_line, plan_text, certificate_text}
 use Rattle.bot_ways.specs.Rooms.{moves_on, room_of_walk, room_of_least, room_of_plan}
 use Rattle.bot_ways.specs.Walking.{IsSomeWalk}
@@ -44,7 +44,7 @@ join-long : length (frame_text (frame_of Join)) ≡ 18
 join-long = frame-long Join
 
 move-long : (a b : Vec3) (seq : ℕ) → length (frame_text (move_frame a b seq)) ≡ 38
-move-long a b seq = frame-long (Step (move_towards seq a b))
+move-long a b seq = frame-long (Move (move_towards seq a b))
 
 between-long : (a b : Vec3) (numbers : List ℕ) → length (frames_text (map (move_frame a b) numbers)) ≡ 38 * length numbers
 between-long a b [] = refl
@@ -79,7 +79,7 @@ through-long seq (a ∷ b ∷ more) =
 walk-long : (m : MapView) (way : List ℕ) → IsMap m → length (walk_text m way) ≤ room_of_walk m way
 walk-long m way is =
     let frames = frames_text (bot_frames m way) in
-    let walks = frames_through 1 (places_of m way) in
+    let walks = frames_through 1 (waypoint_points m way) in
     omega (
       arith,
       ap (λ (t : List ℕ). length t) (walk-parts m way),
@@ -87,7 +87,7 @@ walk-long m way is =
       length-append frames (codes "end\n"),
       length-append (frame_text (frame_of Join)) (frames_text walks),
       join-long,
-      through-long 1 (places_of m way),
+      through-long 1 (waypoint_points m way),
       map-long m is,
     )
 
@@ -151,7 +151,7 @@ way-long m plan is planned =
     )
 
 -- the length of a way is that of its end
-written-long : (m : MapView) (plan : Plan) → IsMap m → IsPlan m plan → length_through (places_of m plan.way) ≤ 4128768
+written-long : (m : MapView) (plan : Plan) → IsMap m → IsPlan m plan → length_through (waypoint_points m plan.way) ≤ 4128768
 written-long m plan is planned =
     let to = planned.is in
     let walk : IsSomeWalk m plan.way = record { from = 0; to = planned.target; far = planned.far; is = to.walk } in
@@ -162,7 +162,7 @@ written-long m plan is planned =
 plan-long : (m : MapView) (plan : Plan) → IsMap m → IsPlan m plan → length (plan_text m plan) ≤ room_of_plan m plan
 unfolding plan_text
 plan-long m plan is planned =
-    let far = length_line (length_through (places_of m plan.way)) in
+    let far = length_line (length_through (waypoint_points m plan.way)) in
     let least = least_line plan.least in
     omega (
       arith,
@@ -171,7 +171,7 @@ plan-long m plan is planned =
       length-append far least,
       walk-long m plan.way is,
       way-long m plan is planned,
-      length-long (length_through (places_of m plan.way)) (written-long m plan is planned),
+      length-long (length_through (waypoint_points m plan.way)) (written-long m plan is planned),
       least-long m plan.least is planned.is.certificate,
     )
 

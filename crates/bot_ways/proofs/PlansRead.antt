@@ -8,7 +8,7 @@ use Rattle.std.proofs.lemmas.List.FromFn.{length-map-range_with_len}
 use Rattle.edge_io.specs.WholeLines.{is_line_feed, whole_lines}
 use Rattle.arena_geo.specs.declared.vec3.Vec3.{Vec3}
 use Rattle.arena_map.specs.Maps.{MapView, IsMap, is_ready}
-use Rattle.packet_read.specs.declared.packet.Packet.TheVariants.{Join, Step}
+use Rattle.packet_read.specs.declared.packet.Packet.TheVariants.{Join, Move}
 use Rattle.packet_read.specs.Spelling.{MoveFits}
 use Rattle.packet_read.proofs.Again.{packet_again}
 use Rattle.packet_read.specs.declared.arrival.Arrival.{Arrival}
@@ -26,7 +26,7 @@ use Rattle.demo_lines.proofs.Written.{packets_have_room}
 use Rattle.demo_lines.proofs.RecordingsRead.{read_in_turn}
 use Rattle.bot_ways.specs.declared.plan.Plan.{Plan}
 use Rattle.bot_ways.specs.Edges.{distance, edge}
-use Rattle.bot_ways.specs.Moves.{place_of, places_of, move_towards, moves_between, sent, move_frame, frames_between, frames_through, bot_frames}
+use Rattle.bot_ways.specs.Moves.{waypoint_point, waypoint_points, move_towards, moves_between, bot_arrival, move_frame, frames_between, frames_through, bot_frames}
 use Rattle.bot_ways.specs.PlanTexts.{IsPlan, frames_text, added_lines, as_written, map_text, walk_text, certificate_text, plan_text}
 use Rattle.bot_ways.specs.Walking.{IsSomeWalk}
 use Rattle.bot_ways.specs.Laws.{PlansAreRecordings, LengthsAreWritten, MovesAreKnown}
@@ -38,18 +38,18 @@ use Rattle.bot_ways.proofs.Wishes.{wish_at_most, wish_fits, part_x, part_y}
 
 -- ---- packets
 
-join-arrival : IsArrival (sent Join)
+join-arrival : IsArrival (bot_arrival Join)
 join-arrival = record {
   port = omega arith;
   bytes = All-cons (λ b. b < 256) 1 (1 ∷ []) (omega arith) (All-cons (λ b. b < 256) 1 [] (omega arith) (All-nil (λ b. b < 256)));
-  fits = packets_have_room.lowest (sent Join) (omega arith) (omega arith);
+  fits = packets_have_room.lowest (bot_arrival Join) (omega arith) (omega arith);
 }
 
-move-arrival : (a b : Vec3) (seq : ℕ) → IsArrival (sent (Step (move_towards seq a b)))
+move-arrival : (a b : Vec3) (seq : ℕ) → IsArrival (bot_arrival (Move (move_towards seq a b)))
 move-arrival a b seq = record {
   port = omega arith;
   bytes = move-bytes (move_towards seq a b) (omega arith) (omega arith);
-  fits = packets_have_room.lowest (sent (Step (move_towards seq a b))) (omega arith) (omega arith);
+  fits = packets_have_room.lowest (bot_arrival (Move (move_towards seq a b))) (omega arith) (omega arith);
 }
 
 -- ---- frames
@@ -63,7 +63,7 @@ each-both (x ∷ xs) ys one other = (one.0, each-both xs ys one.1 other)
 
 each-move : (a b : Vec3) (numbers : List ℕ) → AllByRecursion IsFrame (map (move_frame a b) numbers)
 each-move a b [] = tt
-each-move a b (n ∷ numbers) = (alone-frame (sent (Step (move_towards n a b))) (move-arrival a b n), each-move a b numbers)
+each-move a b (n ∷ numbers) = (alone-frame (bot_arrival (Move (move_towards n a b))) (move-arrival a b n), each-move a b numbers)
 
 each-frame : (seq : ℕ) (places : List Vec3) → AllByRecursion IsFrame (frames_through seq places)
 each-frame seq [] = tt
@@ -73,25 +73,25 @@ each-frame seq (a ∷ b ∷ more) =
     (each-frame (seq + moves_between a b) (b ∷ more))
 
 -- an edge takes at most 16 moves
-pub edge-moves : (m : MapView) (u v step : ℕ) → edge m u v ≡ Some step → moves_between (place_of m u) (place_of m v) ≤ 16
+pub edge-moves : (m : MapView) (u v step : ℕ) → edge m u v ≡ Some step → moves_between (waypoint_point m u) (waypoint_point m v) ≤ 16
 edge-moves m u v step is =
-    few (place_of m u) (place_of m v) (omega (arith, edge-far m u v step is, edge_most m u v step is))
+    few (waypoint_point m u) (waypoint_point m v) (omega (arith, edge-far m u v step is, edge_most m u v step is))
   where
     few : (a b : Vec3) → distance a b ≤ 65536 → moves_between a b ≤ 16
     few a b far = omega arith
 
 -- so a way has at most 16 for each waypoint but the first
-pub few_moves_on : (m : MapView) (seq : ℕ) (way : List ℕ) → IsSomeWalk m way → length (frames_through seq (places_of m way)) + 16 ≤ 16 * length way
+pub few_moves_on : (m : MapView) (seq : ℕ) (way : List ℕ) → IsSomeWalk m way → length (frames_through seq (waypoint_points m way)) + 16 ≤ 16 * length way
 few_moves_on m seq [] walk = absurd (omega (arith, some_walk m [] walk))
 few_moves_on m seq (u ∷ []) walk = omega arith
 few_moves_on m seq (u ∷ v ∷ more) walk =
     let s = first_step m u v more walk in
-    let a = place_of m u in
-    let b = place_of m v in
+    let a = waypoint_point m u in
+    let b = waypoint_point m v in
     let later = few_moves_on m (seq + moves_between a b) (v ∷ more) s.rest in
     omega (
       arith,
-      length-append (frames_between seq a b) (frames_through (seq + moves_between a b) (places_of m (v ∷ more))),
+      length-append (frames_between seq a b) (frames_through (seq + moves_between a b) (waypoint_points m (v ∷ more))),
       length-map-range_with_len (move_frame a b) seq (moves_between a b),
       edge-moves m u v s.step s.edge_is,
       later,
@@ -110,7 +110,7 @@ is-built m plan is planned =
       wide = is.wide;
       accepted = lines-accepted m is;
       few = omega (arith, few_moves_on m 1 plan.way walk, to.few);
-      each = (alone-frame (sent Join) join-arrival, each-frame 1 (places_of m plan.way));
+      each = (alone-frame (bot_arrival Join) join-arrival, each-frame 1 (waypoint_points m plan.way));
       spawn = λ _. ap is_ready (map-again m is) ∙ ready;
     }
 
@@ -203,6 +203,6 @@ moves_are_known = record {
   enough = λ a b. omega arith;
   fewest = λ a b n covers. omega (arith, covers);
   join = packet_again Join tt tt;
-  moves = λ seq a b few apart. packet_again (Step (move_towards seq a b)) (move-fits seq a b few apart) (record { least = omega arith; most = omega arith; buttons = omega arith });
+  moves = λ seq a b few apart. packet_again (Move (move_towards seq a b)) (move-fits seq a b few apart) (record { least = omega arith; most = omega arith; buttons = omega arith });
   wishes = wish_at_most;
 }

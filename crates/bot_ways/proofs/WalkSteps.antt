@@ -8,7 +8,7 @@ use Rattle.arena_geo.specs.Vectors.{zero_vector, IsNear}
 use Rattle.arena_map.specs.Maps.{MapView, solids_of}
 use Rattle.bot_ways.specs.Edges.{distance, edge}
 use Rattle.bot_ways.specs.Walks.{IsWalk, alone, longer}
-use Rattle.bot_ways.specs.Moves.{place_of, places_of, length_through, moves_between, frames_between, frames_through}
+use Rattle.bot_ways.specs.Moves.{waypoint_point, waypoint_points, length_through, moves_between, frames_between, frames_through}
 use Rattle.bot_ways.specs.PlanTexts.{frame_text, frames_text}
 use Rattle.bot_ways.specs.Walking.{IsStride, IsSomeWalk}
 use Rattle.bot_ways.proofs.EdgeParts.{ends_of, edge_at, step_between, from_within, to_within}
@@ -48,7 +48,7 @@ some_walk m way walk = some m walk.from walk.to walk.far way walk.is
 
 -- ---- the places of an edge
 
-place-is : (m : MapView) (u : ℕ) (p : Vec3) → slice_get m.spawns u ≡ Some p → place_of m u ≡ p
+place-is : (m : MapView) (u : ℕ) (p : Vec3) → slice_get m.spawns u ≡ Some p → waypoint_point m u ≡ p
 place-is m u p at = sym (unwrap_or-slice_get m.spawns u zero_vector) ∙ ap (λ o. unwrap_or o zero_vector) at
 
 -- the places that an edge leads between
@@ -61,7 +61,7 @@ stride m u v step p q e at there near near_to =
     let most = is.most in
     record { near = near; near_to = near_to; apart = omega arith; few = omega arith }
 
-pub edge-far : (m : MapView) (u v step : ℕ) → edge m u v ≡ Some step → distance (place_of m u) (place_of m v) ≡ step
+pub edge-far : (m : MapView) (u v step : ℕ) → edge m u v ≡ Some step → distance (waypoint_point m u) (waypoint_point m v) ≡ step
 edge-far m u v step e =
     let ends = ends_of m u v step e in
     let is = step_between (solids_of m) ends.from ends.to step ends.between in
@@ -74,7 +74,7 @@ alone-far m _ _ _ _ (alone u within) = refl
 alone-far m _ _ _ _ (longer u v to step n walk e is) = absurd (omega (arith, some_walk m [] (record { from = v; to = to; far = n; is = is })))
 
 -- it is the sum of the distances
-pub walk-far : (m : MapView) (way : List ℕ) (walk : IsSomeWalk m way) → length_through (places_of m way) ≡ walk.far
+pub walk-far : (m : MapView) (way : List ℕ) (walk : IsSomeWalk m way) → length_through (waypoint_points m way) ≡ walk.far
 walk-far m [] walk = absurd (omega (arith, some_walk m [] walk))
 walk-far m (u ∷ []) walk = sym (alone-far m walk.from u walk.to walk.far walk.is)
 walk-far m (u ∷ v ∷ more) walk =
@@ -90,20 +90,20 @@ walk-ready m _ _ _ _ (longer u w v step k walk e is) = omega (arith, from_within
 
 -- at two places or more, the frames and the length are those of the first edge and those of the rest
 pub record IsCutFirst (m : MapView) (seq : ℕ) (way : List ℕ) (p q : Vec3) (rest : List ℕ) : Type 0 where
-  pub text : frames_text (frames_through seq (places_of m way))
-      ≡ frames_text (frames_between seq p q) ++ frames_text (frames_through (seq + moves_between p q) (places_of m rest))
-  pub far : length_through (places_of m way) ≡ distance p q + length_through (places_of m rest)
+  pub text : frames_text (frames_through seq (waypoint_points m way))
+      ≡ frames_text (frames_between seq p q) ++ frames_text (frames_through (seq + moves_between p q) (waypoint_points m rest))
+  pub far : length_through (waypoint_points m way) ≡ distance p q + length_through (waypoint_points m rest)
   pub rest_is : IsSomeWalk m rest
 
 pub cut_first : (m : MapView) (seq u v : ℕ) (more : List ℕ) (p q : Vec3) → IsSomeWalk m (u ∷ v ∷ more) → slice_get m.spawns u ≡ Some p
     → slice_get m.spawns v ≡ Some q → IsCutFirst m seq (u ∷ v ∷ more) p q (v ∷ more)
 cut_first m seq u v more p q walk at there =
     let Through : Vec3 → Vec3 → Type 0 = λ a b.
-    (frames_text (frames_through seq (a ∷ b ∷ places_of m more)) ≡ frames_text (frames_between seq p q) ++ frames_text (frames_through (seq + moves_between p q) (b ∷ places_of m more)))
-    × (length_through (a ∷ b ∷ places_of m more) ≡ distance p q + length_through (b ∷ places_of m more)) in
-    let here : Through p q = (flat_map-append frame_text (frames_between seq p q) (frames_through (seq + moves_between p q) (q ∷ places_of m more)), refl) in
-    let both : Through (place_of m u) (place_of m v) =
-    subst (λ a. Through a (place_of m v)) (sym (place-is m u p at)) (subst (λ b. Through p b) (sym (place-is m v q there)) here) in
+    (frames_text (frames_through seq (a ∷ b ∷ waypoint_points m more)) ≡ frames_text (frames_between seq p q) ++ frames_text (frames_through (seq + moves_between p q) (b ∷ waypoint_points m more)))
+    × (length_through (a ∷ b ∷ waypoint_points m more) ≡ distance p q + length_through (b ∷ waypoint_points m more)) in
+    let here : Through p q = (flat_map-append frame_text (frames_between seq p q) (frames_through (seq + moves_between p q) (q ∷ waypoint_points m more)), refl) in
+    let both : Through (waypoint_point m u) (waypoint_point m v) =
+    subst (λ a. Through a (waypoint_point m v)) (sym (place-is m u p at)) (subst (λ b. Through p b) (sym (place-is m v q there)) here) in
     record { text = both.0; far = both.1; rest_is = (first_step m u v more walk).rest }
 
 -- the rest of a way from the waypoint before this one
@@ -130,8 +130,8 @@ at_edge m way i first within walk =
 
 -- the text has the frames up to the waypoint before this one, and the rest of the way is a walk
 pub record WalksOn (m : MapView) (way : List ℕ) (i seq far : ℕ) (text begun : List ℕ) : Type 0 where
-  pub text_is : text ++ frames_text (frames_through seq (places_of m (drop (i - 1) way))) ≡ begun ++ frames_text (frames_through 1 (places_of m way))
-  pub far_is : far + length_through (places_of m (drop (i - 1) way)) ≡ length_through (places_of m way)
+  pub text_is : text ++ frames_text (frames_through seq (waypoint_points m (drop (i - 1) way))) ≡ begun ++ frames_text (frames_through 1 (waypoint_points m way))
+  pub far_is : far + length_through (waypoint_points m (drop (i - 1) way)) ≡ length_through (waypoint_points m way)
   pub walk : IsSomeWalk m (drop (i - 1) way)
   pub few_moves : seq ≤ 16 * i
   pub short : far ≤ 65536 * i
@@ -147,18 +147,18 @@ walks-next m way i seq far text begun next p q on first within at there is few s
     let here : i + 1 - 1 ≡ i = omega arith in
     let rest : drop (i + 1 - 1) way ≡ v ∷ more = ap (λ n. drop n way) here ∙ drop_more way i 0 within in
     let parts = cut_first m seq u v more p q (subst (IsSomeWalk m) cut on.walk) at there in
-    let later = frames_text (frames_through (seq + moves_between p q) (places_of m (v ∷ more))) in
+    let later = frames_text (frames_through (seq + moves_between p q) (waypoint_points m (v ∷ more))) in
     record {
-      text_is = ap (λ ws. next ++ frames_text (frames_through (seq + moves_between p q) (places_of m ws))) rest
+      text_is = ap (λ ws. next ++ frames_text (frames_through (seq + moves_between p q) (waypoint_points m ws))) rest
           ∙ ap (λ t. t ++ later) is
           ∙ append_assoc text (frames_text (frames_between seq p q)) later
           ∙ ap (λ t. text ++ t) (sym parts.text)
-          ∙ ap (λ ws. text ++ frames_text (frames_through seq (places_of m ws))) (sym cut)
+          ∙ ap (λ ws. text ++ frames_text (frames_through seq (waypoint_points m ws))) (sym cut)
           ∙ on.text_is;
       far_is = omega (
         arith,
-        ap (λ ws. length_through (places_of m ws)) rest,
-        ap (λ ws. length_through (places_of m ws)) cut,
+        ap (λ ws. length_through (waypoint_points m ws)) rest,
+        ap (λ ws. length_through (waypoint_points m ws)) cut,
         parts.far,
         on.far_is,
       );
@@ -169,8 +169,8 @@ walks-next m way i seq far text begun next p q on first within at there is few s
 
 -- the whole way was walked
 pub record WalkedAll (m : MapView) (way : List ℕ) (far : ℕ) (text begun : List ℕ) : Type 0 where
-  pub text_is : text ≡ begun ++ frames_text (frames_through 1 (places_of m way))
-  pub far_is : far ≡ length_through (places_of m way)
+  pub text_is : text ≡ begun ++ frames_text (frames_through 1 (waypoint_points m way))
+  pub far_is : far ≡ length_through (waypoint_points m way)
 
 pub walks-end : (m : MapView) (way : List ℕ) (i seq far : ℕ) (text begun : List ℕ) → WalksOn m way i seq far text begun → 1 ≤ i → length way ≤ i → WalkedAll m way far text begun
 walks-end m way i seq far text begun on first past =
@@ -180,8 +180,8 @@ walks-end m way i seq far text begun on first past =
     let one : drop (i - 1) way ≡ get_or way (i - 1) 0 ∷ [] =
     drop_more way (i - 1) 0 last ∙ ap (λ n. get_or way (i - 1) 0 ∷ drop n way) after ∙ ap (λ ws. get_or way (i - 1) 0 ∷ ws) (drop_all i way past) in
     record {
-      text_is = sym (append-nil text) ∙ ap (λ ws. text ++ frames_text (frames_through seq (places_of m ws))) (sym one) ∙ on.text_is;
-      far_is = omega (arith, ap (λ ws. length_through (places_of m ws)) one, on.far_is);
+      text_is = sym (append-nil text) ∙ ap (λ ws. text ++ frames_text (frames_through seq (waypoint_points m ws))) (sym one) ∙ on.text_is;
+      far_is = omega (arith, ap (λ ws. length_through (waypoint_points m ws)) one, on.far_is);
     }
 
 -- what the code finds at two numbers that are those of the waypoint before this one and of this one

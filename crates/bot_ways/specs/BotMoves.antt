@@ -5,7 +5,7 @@ use Rattle.arena_geo.specs.declared.vec3.Vec3.{Vec3}
 use Rattle.arena_geo.specs.Vectors.{zero_vector}
 use Rattle.packet_read.specs.declared.arrival.Arrival.{Arrival}
 use Rattle.packet_read.specs.declared.move_packet.MovePacket.{MovePacket}
-use Rattle.packet_read.specs.declared.packet.Packet.TheVariants.{Join, Step}
+use Rattle.packet_read.specs.declared.packet.Packet.TheVariants.{Join, Move}
 use Rattle.packet_read.specs.Spelling.{spelling}
 use Rattle.arena_map.specs.Maps.{MapView}
 use Rattle.bot_ways.specs.Moves.{bot_frames}
@@ -33,7 +33,7 @@ pub record LeadsTowards (seq : ℕ) (a b : Vec3) (move : MovePacket) : Type 0 wh
 pub record HasMoveTowards (seq : ℕ) (a b : Vec3) (frame : List Arrival) : Type 0 where
   pub move : MovePacket
   pub leads : LeadsTowards seq a b move
-  pub alone : frame ≡ record { port = 1; bytes = spelling (Step move) } ∷ []
+  pub alone : frame ≡ record { port = 1; bytes = spelling (Move move) } ∷ []
 
 -- as few frames as cover the distance by 4,096 each, with moves from the first place towards the second, numbered from seq
 pub record LeadFrom (seq : ℕ) (a b : Vec3) (frames : List (List Arrival)) : Type 0 where

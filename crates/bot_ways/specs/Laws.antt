@@ -6,7 +6,7 @@ use Rattle.arena_geo.specs.Boxes.{is_blocked}
 use Rattle.box_trace.specs.Traces.{IsFreeWay}
 use Rattle.entity_recs.specs.Bodies.{player_body}
 use Rattle.arena_map.specs.Maps.{MapView, IsMap, solids_of}
-use Rattle.packet_read.specs.declared.packet.Packet.TheVariants.{Join, Step}
+use Rattle.packet_read.specs.declared.packet.Packet.TheVariants.{Join, Move}
 use Rattle.packet_read.specs.Reading.{reading}
 use Rattle.demo_lines.specs.Laws.{IsTextOf}
 use Rattle.bot_ways.specs.declared.plan.Plan.{Plan}
@@ -14,7 +14,7 @@ use Rattle.bot_ways.specs.declared.writing.TheConstants.{MOST_PLAN_BYTES}
 use Rattle.bot_ways.specs.Edges.{distance, edge}
 use Rattle.bot_ways.specs.Walks.{IsWalk, HasLeast}
 use Rattle.bot_ways.specs.Ways.{IsCertificate, IsWay}
-use Rattle.bot_ways.specs.Moves.{place_of, places_of, length_through, wish_along, move_towards, moves_between, sent, bot_frames}
+use Rattle.bot_ways.specs.Moves.{waypoint_point, waypoint_points, length_through, wish_along, move_towards, moves_between, bot_arrival, bot_frames}
 use Rattle.bot_ways.specs.PlanTexts.{IsPlan, as_written, least_line, plan_text}
 use Rattle.bot_ways.specs.Rooms.{moves_on, room_of_least, room_of_plan}
 
@@ -58,16 +58,16 @@ PlansAreRecordings =
 -- the length that is written of a way is that of its walk
 abbrev pub LengthsAreWritten : Type 0
 LengthsAreWritten =
-    (map : MapView) (u v n : ℕ) (way : List ℕ) → IsWalk map u v way n → length_through (places_of map way) ≡ n
+    (map : MapView) (u v n : ℕ) (way : List ℕ) → IsWalk map u v way n → length_through (waypoint_points map way) ≡ n
 
 -- from one place to another there are as few moves as cover the distance by 4,096 each; and the packets are read as the
 -- join and as these moves, whose wishes are at most 320
 pub record MovesAreKnown : Type 0 where
   pub enough : (a b : Vec3) → distance a b ≤ 4096 * moves_between a b
   pub fewest : (a b : Vec3) (n : ℕ) → distance a b ≤ 4096 * n → moves_between a b ≤ n
-  pub join : reading (sent Join).bytes ≡ Ok Join
+  pub join : reading (bot_arrival Join).bytes ≡ Ok Join
   pub moves : (seq : ℕ) (a b : Vec3) → seq < 2 ^ 32 → 1 ≤ distance a b
-      → reading (sent (Step (move_towards seq a b))).bytes ≡ Ok (Step (move_towards seq a b))
+      → reading (bot_arrival (Move (move_towards seq a b))).bytes ≡ Ok (Move (move_towards seq a b))
   pub wishes : (part : ℤ) (whole : ℕ) → 1 ≤ whole → unsigned_abs part ≤ whole → unsigned_abs (wish_along part whole) ≤ 320
 
 -- what is written of a plan has at most as many bytes as its map, its moves and its waypoints need. An edge has at most 16
@@ -76,7 +76,7 @@ pub record MovesAreKnown : Type 0 where
 pub record PlanTextsAreBounded : Type 0 where
   pub texts : (map : MapView) (plan : Plan) → IsMap map → IsPlan map plan
       → length (plan_text map plan) ≤ room_of_plan map plan
-  pub each : (map : MapView) (u v n : ℕ) → edge map u v ≡ Some n → moves_between (place_of map u) (place_of map v) ≤ 16
+  pub each : (map : MapView) (u v n : ℕ) → edge map u v ≡ Some n → moves_between (waypoint_point map u) (waypoint_point map v) ≤ 16
   pub moves : (map : MapView) (plan : Plan) → IsPlan map plan → moves_on map plan.way + 16 ≤ 16 * length plan.way
   pub least : (map : MapView) (least : List (Option ℕ)) → IsMap map → IsCertificate map least
       → length (least_line least) ≤ room_of_least map

@@ -6,19 +6,19 @@ use Rattle.arena_geo.specs.declared.vec3.Vec3.{Vec3}
 use Rattle.arena_geo.specs.Vectors.{zero_vector}
 use Rattle.packet_read.specs.declared.move_packet.MovePacket.{MovePacket}
 use Rattle.packet_read.specs.declared.packet.Packet.{Packet}
-use Rattle.packet_read.specs.declared.packet.Packet.TheVariants.{Join, Step}
+use Rattle.packet_read.specs.declared.packet.Packet.TheVariants.{Join, Move}
 use Rattle.packet_read.specs.Spelling.{spelling}
 use Rattle.packet_read.specs.declared.arrival.Arrival.{Arrival}
 use Rattle.arena_map.specs.Maps.{MapView}
 use Rattle.bot_ways.specs.Edges.{distance}
 
 -- the place of a waypoint
-abbrev pub place_of : MapView → ℕ → Vec3
-place_of m waypoint = slice_index_or m.spawns waypoint zero_vector
+abbrev pub waypoint_point : MapView → ℕ → Vec3
+waypoint_point m waypoint = slice_index_or m.spawns waypoint zero_vector
 
 -- the places of the waypoints of a walk
-abbrev pub places_of : MapView → List ℕ → List Vec3
-places_of m way = map (place_of m) way
+abbrev pub waypoint_points : MapView → List ℕ → List Vec3
+waypoint_points m way = map (waypoint_point m) way
 
 -- the length of the walk through these places
 abbrev pub length_through : List Vec3 → ℕ
@@ -45,16 +45,16 @@ abbrev pub moves_between : Vec3 → Vec3 → ℕ
 moves_between a b = div_ceil (distance a b) 4096
 
 -- a packet of the bot, which sends from port 1
-abbrev pub sent : Packet → Arrival
-sent packet = record { port = 1; bytes = spelling packet }
+abbrev pub bot_arrival : Packet → Arrival
+bot_arrival packet = record { port = 1; bytes = spelling packet }
 
 -- a frame of this packet alone
 abbrev pub frame_of : Packet → List Arrival
-frame_of packet = sent packet ∷ []
+frame_of packet = bot_arrival packet ∷ []
 
 -- a frame of the move with this number
 abbrev pub move_frame : Vec3 → Vec3 → ℕ → List Arrival
-move_frame a b seq = frame_of (Step (move_towards seq a b))
+move_frame a b seq = frame_of (Move (move_towards seq a b))
 
 -- the frames from one place to another, where the first move has this number
 abbrev pub frames_between : ℕ → Vec3 → Vec3 → List (List Arrival)
@@ -68,4 +68,4 @@ frames_through seq (a ∷ b ∷ more) = frames_between seq a b ++ frames_through
 
 -- the frames of the recording: the bot joins, and then walks
 abbrev pub bot_frames : MapView → List ℕ → List (List Arrival)
-bot_frames m way = frame_of Join ∷ frames_through 1 (places_of m way)
+bot_frames m way = frame_of Join ∷ frames_through 1 (waypoint_points m way)

@@ -14,7 +14,7 @@ use Rattle.demo_lines.specs.InTurn.{text_in_turn}
 use Rattle.bot_ways.specs.declared.plan.Plan.{Plan}
 use Rattle.bot_ways.specs.Walks.{IsWalk, length_to}
 use Rattle.bot_ways.specs.Ways.{IsWay, IsCertificate}
-use Rattle.bot_ways.specs.Moves.{places_of, length_through, bot_frames}
+use Rattle.bot_ways.specs.Moves.{waypoint_points, length_through, bot_frames}
 
 -- ---- plans
 
@@ -116,7 +116,7 @@ least_line least = line_with (codes "least") (map least_field least)
 -- the way, its length, and the least lengths
 abbrev pub certificate_text : MapView → Plan → List ℕ
 certificate_text m plan =
-    way_line plan.way ++ (length_line (length_through (places_of m plan.way)) ++ least_line plan.least)
+    way_line plan.way ++ (length_line (length_through (waypoint_points m plan.way)) ++ least_line plan.least)
 
 -- ---- the whole
 

@@ -3,11 +3,11 @@ use Rattle.std.specs.Prelude.{ℕ, ◌+◌, ◌*◌, List, length, count_by}
 use Rattle.arena_map.specs.Maps.{MapView}
 use Rattle.arena_map.specs.MapLines.{is_item_line, is_teleport_line, is_goal_line, is_lift_line}
 use Rattle.bot_ways.specs.declared.plan.Plan.{Plan}
-use Rattle.bot_ways.specs.Moves.{places_of, frames_through}
+use Rattle.bot_ways.specs.Moves.{waypoint_points, frames_through}
 
 -- how many moves a bot makes along a way
 abbrev pub moves_on : MapView → List ℕ → ℕ
-moves_on m way = length (frames_through 1 (places_of m way))
+moves_on m way = length (frames_through 1 (waypoint_points m way))
 
 -- for the lines of things: 43 bytes for each item, 90 for each teleporter, 59 for each goal and 72 for each lift
 abbrev pub room_of_things : MapView → ℕ

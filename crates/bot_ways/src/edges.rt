@@ -51,7 +51,7 @@ fn has_edge(solids: &[Aabb], from: Vec3, to: Vec3) -> bool
 }
 
 /// The place of a waypoint.
-pub fn place_of(map: &ArenaMap, waypoint: usize) -> Vec3
+pub fn waypoint_point(map: &ArenaMap, waypoint: usize) -> Vec3
     requires { waypoint < length map.now.spawns }
     ensures value { slice_get map.now.spawns waypoint ≡ Some result }
     ensures near { IsNear 1048576 result }
@@ -66,7 +66,7 @@ pub fn edge(map: &ArenaMap, from: usize, to: usize) -> Option<u32>
     ensures value { result ≡ edges.edge map.now from to }
     ensures few { IfSome result (λ step. step ≤ 65536) }
 {
-    let (from, to) = (place_of(map, from), place_of(map, to));
+    let (from, to) = (waypoint_point(map, from), waypoint_point(map, to));
     if !has_edge(map.solids(), from, to) {
         return None;
     }

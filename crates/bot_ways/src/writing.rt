@@ -58,7 +58,7 @@ pub fn write_plan<K: Sink>(
     ensures no_memory { result ≡ Err NoMemory → sink.new ≡ sink.old }
 
     ensures later { K.faults sink.old ≤ K.faults sink.new }
-    ensures cause { result ≡ Err WriteFault → HasRisen (K.faults sink.old) (K.faults sink.new) }
+    ensures fault { result ≡ Err WriteFault → HasRisen (K.faults sink.old) (K.faults sink.new) }
     ensures uncounted { OnOk result (K.faults sink.new ≡ K.faults sink.old) }
     ensures sure { length (texts.plan_text map.now plan.now) ≤ K.room sink.old → result ≢ Err WriteFault }
     ensures room { OnOk result (K.room sink.old ≤ K.room sink.new + length (texts.plan_text map.now plan.now)) }
@@ -87,7 +87,7 @@ pub fn write_least<K: Sink>(alloc: Global, least: &LeastList, sink: &mut K) -> R
     ensures no_memory { result ≡ Err NoMemory → sink.new ≡ sink.old }
 
     ensures later { K.faults sink.old ≤ K.faults sink.new }
-    ensures cause { result ≡ Err WriteFault → HasRisen (K.faults sink.old) (K.faults sink.new) }
+    ensures fault { result ≡ Err WriteFault → HasRisen (K.faults sink.old) (K.faults sink.new) }
     ensures uncounted { OnOk result (K.faults sink.new ≡ K.faults sink.old) }
     ensures sure { length (least_line least.now) ≤ K.room sink.old → result ≢ Err WriteFault }
     ensures room { OnOk result (K.room sink.old ≤ K.room sink.new + length (least_line least.now)) }

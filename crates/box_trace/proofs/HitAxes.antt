@@ -7,7 +7,7 @@ use Rattle.std.proofs.lemmas.Option.{same_Some, get_or_from_slice_get}
 use Rattle.arena_geo.specs.declared.vec3.Vec3.{Vec3}
 use Rattle.arena_geo.specs.Vectors.{zero_vector}
 use Rattle.arena_geo.specs.Bounds.{Bounds}
-use Rattle.arena_geo.specs.Boxes.{overlaps_on, overlaps, moved}
+use Rattle.arena_geo.specs.Boxes.{overlaps_on, overlaps, box_moved_by}
 use Rattle.arena_geo.proofs.Containment.{ThreePass, three_pass}
 use Rattle.box_trace.specs.declared.axis.Axis.{Axis}
 use Rattle.box_trace.specs.declared.axis.Axis.TheVariants.{X, Y, Z}
@@ -66,7 +66,7 @@ part_at-none n k =
     ap pos (ap (λ (m : ℕ). m / n) none ∙ zero-div n)
 
 stays_along : (axis : Axis) (body : Bounds) (d : Vec3) (solid : Bounds) (k : ℕ) → part axis d ≡ pos 0
-    → overlaps_along axis (body_at body d k) solid ≡ overlaps_along axis (moved body zero_vector) solid
+    → overlaps_along axis (body_at body d k) solid ≡ overlaps_along axis (box_moved_by body zero_vector) solid
 unfolding overlaps_along
 stays_along X body d solid k none =
     ap (λ (s : ℤ). overlaps_on (body.lo.x +ℤ s) (body.hi.x +ℤ s) solid.lo.x solid.hi.x) (ap (part_at (step_count d) k) none ∙ part_at-none (step_count d) k)
@@ -80,7 +80,7 @@ moves_along : (axis : Axis) (body : Bounds) (d : Vec3) (solid : Bounds) (k : ℕ
     → separating_axis (body_at body d k) solid ≡ Some axis → overlaps (body_at body d (k + 1)) solid ≡ true
     → part axis d ≢ pos 0
 moves_along axis body d solid k apart meets none =
-    both_ways (overlaps_along axis (moved body zero_vector) solid)
+    both_ways (overlaps_along axis (box_moved_by body zero_vector) solid)
     (sym (stays_along axis body d solid k none) ∙ apart_along axis (body_at body d k) solid apart)
     (sym (stays_along axis body d solid (k + 1) none) ∙ overlap_along_each axis (body_at body d (k + 1)) solid meets)
 

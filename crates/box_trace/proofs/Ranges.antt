@@ -5,7 +5,7 @@ use Rattle.std.proofs.lemmas.Int.{ints}
 use Rattle.arena_geo.specs.declared.vec3.Vec3.{Vec3}
 use Rattle.arena_geo.specs.Vectors.{IsNear}
 use Rattle.arena_geo.specs.Bounds.{Bounds, IsInRange}
-use Rattle.arena_geo.specs.Boxes.{moved}
+use Rattle.arena_geo.specs.Boxes.{box_moved_by}
 use Rattle.box_trace.specs.Steps.{step_count, part_at, shift_at, body_at}
 use Rattle.box_trace.specs.Laws.{StepsStayInRange}
 use Rattle.box_trace.proofs.Parts.{share_le, part_at-neg}
@@ -27,7 +27,7 @@ near_on_the_way v d k far within first last = record {
   z = part_in_range v.z d.z (step_count d) k far within first.z last.z;
 }
 
-pub IsInRange-body_at : (body : Bounds) (d : Vec3) (k : ℕ) → IsInRange body → IsInRange (moved body d)
+pub IsInRange-body_at : (body : Bounds) (d : Vec3) (k : ℕ) → IsInRange body → IsInRange (box_moved_by body d)
     → k ≤ step_count d → IsInRange (body_at body d k)
 IsInRange-body_at body d k first last within = record {
   lo = near_on_the_way body.lo d k 2097152 within first.lo last.lo;
@@ -51,8 +51,8 @@ shift_at-last d =
     λ i. record { x = x i; y = y i; z = z i }
 
 -- at the last step the body is at the end of its way
-pub body_at-last : (body : Bounds) (d : Vec3) → body_at body d (step_count d) ≡ moved body d
-body_at-last body d = ap (moved body) (shift_at-last d)
+pub body_at-last : (body : Bounds) (d : Vec3) → body_at body d (step_count d) ≡ box_moved_by body d
+body_at-last body d = ap (box_moved_by body) (shift_at-last d)
 
 pub steps_stay_in_range : StepsStayInRange
 steps_stay_in_range body d start = (

@@ -6,7 +6,7 @@ use Rattle.std.proofs.Math.Bool.{and_comm}
 use Rattle.arena_geo.specs.Boxes.{overlaps_on}
 use Rattle.box_trace.specs.declared.span.Span.{Span}
 use Rattle.box_trace.specs.declared.window.Window.{Window}
-use Rattle.box_trace.specs.Windows.{IsFirstReach, IsOverlapWindow, mirrored}
+use Rattle.box_trace.specs.Windows.{IsFirstReach, IsOverlapWindow, span_mirrored}
 use Rattle.box_trace.proofs.Parts.{part_at-neg}
 
 -- two tests, each given by another, in the other order
@@ -47,7 +47,7 @@ overlaps_on-mirrored : (lo hi other_lo other_hi : ℤ) (m : ℕ)
 overlaps_on-mirrored lo hi other_lo other_hi m = swapped (turned_left lo other_hi m) (turned_right hi other_lo m)
 
 mirrored_window : (s other : Span) (part : ℤ) (count : ℕ) (window : Window) → part <ℤ pos 0
-    → IsOverlapWindow (mirrored s) (mirrored other) (pos (unsigned_abs part)) count window
+    → IsOverlapWindow (span_mirrored s) (span_mirrored other) (pos (unsigned_abs part)) count window
     → IsOverlapWindow s other part count window
 mirrored_window s other (pos n) count window below upwards = absurd (omega (arith, ints))
 mirrored_window s other (negsuc n) count window below upwards = record {
@@ -57,7 +57,7 @@ mirrored_window s other (negsuc n) count window below upwards = record {
 
 -- the window of a part below 0 is that of the mirrored spans
 pub window_from_mirrored : (s other t u : Span) (part : ℤ) (size count : ℕ) (window : Window) → part <ℤ pos 0
-    → t ≡ mirrored s → u ≡ mirrored other → size ≡ unsigned_abs part → IsOverlapWindow t u (pos size) count window
+    → t ≡ span_mirrored s → u ≡ span_mirrored other → size ≡ unsigned_abs part → IsOverlapWindow t u (pos size) count window
     → IsOverlapWindow s other part count window
 window_from_mirrored s other t u part size count window below t_is u_is size_is upwards =
     mirrored_window s other part count window below (rw (t_is, u_is, size_is) at upwards)

@@ -3,7 +3,7 @@ use Rattle.std.specs.Prelude.{◌≡◌, ◌≢◌, ℕ, ◌+◌, ◌*◌, ◌�
 use Rattle.std.specs.Prelude.{ℤ, pos, ◌≤ℤ◌, unsigned_abs}
 use Rattle.arena_geo.specs.declared.vec3.Vec3.{Vec3}
 use Rattle.arena_geo.specs.Bounds.{Bounds, IsInRange, IsOrdered}
-use Rattle.arena_geo.specs.Boxes.{moved, contains, overlaps_on, overlaps, is_blocked}
+use Rattle.arena_geo.specs.Boxes.{box_moved_by, contains, overlaps_on, overlaps, is_blocked}
 use Rattle.box_trace.specs.declared.axis.Axis.{Axis}
 use Rattle.box_trace.specs.declared.hit.Hit.{Hit}
 use Rattle.box_trace.specs.declared.hit.TheConstants.{MOST_SOLIDS}
@@ -40,7 +40,7 @@ pub record IsShareOf (k n : ℕ) (whole shift : ℤ) : Type 0 where
 -- the way has n steps, at step k of which the body is shifted by k parts in n of the displacement on each axis
 pub record GoesStraight (body : Bounds) (d : Vec3) (k n : ℕ) : Type 0 where
   pub steps : step_count d ≡ n
-  pub shifted : body_at body d k ≡ moved body (shift_at d k)
+  pub shifted : body_at body d k ≡ box_moved_by body (shift_at d k)
   pub share : (axis : Axis) → IsShareOf k n (part axis d) (part axis (shift_at d k))
 
 -- a body goes straight, in as many steps as the greatest part of its displacement has sub-units
@@ -52,7 +52,7 @@ WaysAreStraight =
 abbrev pub StepsStayInRange : Type 0
 StepsStayInRange =
     (body : Bounds) (d : Vec3) → IsInRange body
-    → (IsInRange (moved body d) ↔ ((k : ℕ) → k ≤ step_count d → IsInRange (body_at body d k)))
+    → (IsInRange (box_moved_by body d) ↔ ((k : ℕ) → k ≤ step_count d → IsInRange (body_at body d k)))
 
 -- no solid overlaps the body at a step that its trace goes
 abbrev pub StepsAreFree : Type 0
@@ -63,7 +63,7 @@ StepsAreFree =
 -- the trace goes the whole way, to its end
 pub record GoesWholeWay (body : Bounds) (d : Vec3) (hit : Hit) : Type 0 where
   pub whole : hit.whole ≡ true
-  pub end : body_at body d hit.steps ≡ moved body d
+  pub end : body_at body d hit.steps ≡ box_moved_by body d
 
 -- a trace of which the whole way is free goes all of it
 abbrev pub FreeWayIsGone : Type 0

@@ -2,7 +2,7 @@
 use Rattle.std.specs.Prelude.{ℕ, max, ℤ, pos, ◌*ℤ◌, int_div, unsigned_abs}
 use Rattle.arena_geo.specs.declared.vec3.Vec3.{Vec3}
 use Rattle.arena_geo.specs.Bounds.{Bounds}
-use Rattle.arena_geo.specs.Boxes.{moved}
+use Rattle.arena_geo.specs.Boxes.{box_moved_by}
 
 -- how many steps a displacement has: the greatest of its parts, signs left out
 abbrev pub step_count : Vec3 → ℕ
@@ -19,4 +19,4 @@ shift_at d k =
 
 -- the body at step k
 abbrev pub body_at : Bounds → Vec3 → ℕ → Bounds
-body_at body d k = moved body (shift_at d k)
+body_at body d k = box_moved_by body (shift_at d k)

@@ -11,8 +11,8 @@ abbrev pub span : ℤ → ℤ → Span
 span lo hi = record { lo = lo; hi = hi }
 
 -- the span on the axis that points the other way
-abbrev pub mirrored : Span → Span
-mirrored s = span (neg_ℤ s.hi) (neg_ℤ s.lo)
+abbrev pub span_mirrored : Span → Span
+span_mirrored s = span (neg_ℤ s.hi) (neg_ℤ s.lo)
 
 -- both ends are at most 2,097,152 from 0
 pub record IsNearSpan (s : Span) : Type 0 where

@@ -2,7 +2,7 @@ ghost use Rattle.std.specs.Prelude.{◌≡◌, ◌+◌, ◌≤◌, ◌↔◌, �
 ghost use Rattle.std.specs.Prelude.{length, IsTrue, IsNone, is_none};
 ghost use Rattle.arena_geo.specs.Vectors.{IsNear};
 ghost use Rattle.arena_geo.specs.Bounds.{IsInRange};
-ghost use Rattle.arena_geo.specs.Boxes.{moved};
+ghost use Rattle.arena_geo.specs.Boxes.{box_moved_by};
 ghost use Rattle.box_trace.specs.Traces.{IsTrace, trace_of, is_inside_block};
 ghost use Rattle.box_trace.specs.Meetings.{IsFirstMeeting};
 
@@ -21,7 +21,7 @@ use arena_geo::{Aabb, Vec3};
 /// every step.
 pub fn trace(body: &Aabb, d: Vec3, fixed: &[Aabb], moving: &[Aabb]) -> Hit
     requires near { IsNear REACH d }
-    requires in_range { IsInRange (moved body.now d) }
+    requires in_range { IsInRange (box_moved_by body.now d) }
     requires few { length fixed.now + length moving.now ≤ MOST_SOLIDS }
     ensures is_trace { IsTrace body.now d (fixed.now ++ moving.now) result }
     ensures value { result ≡ trace_of body.now d (fixed.now ++ moving.now) }

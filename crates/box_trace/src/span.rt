@@ -1,7 +1,7 @@
 ghost use Rattle.std.specs.Prelude.{◌≡◌, ◌<◌};
 ghost use Rattle.arena_geo.specs.Boxes as boxes;
 ghost use Rattle.box_trace.specs.Traces as traces;
-ghost use Rattle.box_trace.specs.Windows.{IsNearSpan, span, mirrored};
+ghost use Rattle.box_trace.specs.Windows.{IsNearSpan, span, span_mirrored};
 
 use crate::axis::Axis;
 use arena_geo::Aabb;
@@ -52,7 +52,7 @@ impl Span {
     /// The span on the axis that points the other way.
     pub fn mirrored(self) -> Span
         requires { IsNearSpan self }
-        ensures value { result ≡ mirrored self }
+        ensures value { result ≡ span_mirrored self }
         ensures near { IsNearSpan result }
     {
         Span {

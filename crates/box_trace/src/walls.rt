@@ -50,7 +50,7 @@ fn wall(lo: Vec3, hi: Vec3) -> Aabb
     requires { IsBox (bounds lo hi) }
     ensures { result ≡ bounds lo hi }
 {
-    Aabb::between(lo, hi)
+    Aabb::from_corners(lo, hi)
 }
 
 /// The walls outside an arena with these corners.

@@ -2,7 +2,7 @@ ghost use Rattle.std.specs.Prelude.{◌≡◌, ◌<◌, ◌≤◌, unsigned_abs}
 ghost use Rattle.std.specs.Option.{ForSome};
 ghost use Rattle.arena_geo.specs.Vectors.{IsNear};
 ghost use Rattle.arena_geo.specs.Bounds.{IsBox, IsInRange};
-ghost use Rattle.arena_geo.specs.Boxes.{moved};
+ghost use Rattle.arena_geo.specs.Boxes.{box_moved_by};
 ghost use Rattle.box_trace.specs.Steps as steps;
 ghost use Rattle.box_trace.specs.Meetings.{IsFirstOverlap, IsMeetingWith, IsOnWay, hit_of};
 
@@ -62,7 +62,7 @@ pub struct Way {
     pub count: u32,
     ghost is_box: { IsBox body },
     ghost near: { IsNear 65536 d },
-    ghost in_range: { IsInRange (moved body d) },
+    ghost in_range: { IsInRange (box_moved_by body d) },
     ghost counted: { count ≡ steps.step_count d },
 }
 
@@ -70,7 +70,7 @@ impl Way {
     /// The way of the body along this displacement, of which each part is at most [`REACH`] from 0.
     pub fn new(body: &Aabb, d: Vec3) -> Way
         requires near { IsNear REACH d }
-        requires in_range { IsInRange (moved body.now d) }
+        requires in_range { IsInRange (box_moved_by body.now d) }
         ensures body { result.body ≡ body.now }
         ensures d { result.d ≡ d }
     {

@@ -7,10 +7,10 @@ use Rattle.std.proofs.lemmas.Option.{none-some}
 use Rattle.entity_slots.specs.declared.join_fault.JoinFault.TheVariants as fault
 use Rattle.entity_slots.specs.Ports as slots
 use Rattle.entity_slots.specs.Ports.{port_at}
-use Rattle.entity_slots.specs.Places.{free_slot, place_for}
+use Rattle.entity_slots.specs.FreeSlots.{free_slot, slot_for}
 use Rattle.arena_map.specs.Maps.{MapView}
 use Rattle.client_ports.specs.declared.client.Client.{Client}
-use Rattle.client_ports.specs.declared.spawns.Place.{Place}
+use Rattle.client_ports.specs.declared.spawns.JoinPoint.{JoinPoint}
 use Rattle.client_ports.specs.Clients.{client_at, port_of, ports_of}
 use Rattle.client_ports.specs.States.{State}
 use Rattle.client_ports.specs.Answers.{join_answer}
@@ -31,8 +31,8 @@ pub record IsNewcomer (clients : List (Option Client)) (port slot : ℕ) : Type 
   pub not_joined : slots.is_joined (ports_of clients) port ≡ false
 
 -- which is so where a join gets a slot
-pub join-newcomer : (map : MapView) (state : State) (port : ℕ) (to : Place) → join_answer map state port ≡ Ok to → IsNewcomer state.clients port to.slot
-join-newcomer map state port to e = by (slots.is_joined ports port) (free_slot ports) refl refl (got map state.records (place_for ports port) to e).slot
+pub join-newcomer : (map : MapView) (state : State) (port : ℕ) (to : JoinPoint) → join_answer map state port ≡ Ok to → IsNewcomer state.clients port to.slot
+join-newcomer map state port to e = by (slots.is_joined ports port) (free_slot ports) refl refl (got map state.records (slot_for ports port) to e).slot
   where
     ports : List (Option ℕ)
     ports = ports_of state.clients

@@ -14,14 +14,14 @@ use Rattle.entity_recs.specs.Bodies.{body_of, player_body}
 use Rattle.entity_recs.specs.Kinds.{is_solid}
 use Rattle.entity_recs.proofs.Elements.{contains_kept, contains_before, kept_passes}
 use Rattle.packet_read.specs.declared.packet.Packet.{Packet}
-use Rattle.packet_read.specs.declared.packet.Packet.TheVariants.{Join, Step, Leave, Steps}
+use Rattle.packet_read.specs.declared.packet.Packet.TheVariants.{Join, Move, Leave, Moves}
 use Rattle.packet_read.specs.declared.packet_fault.PacketFault.{PacketFault}
 use Rattle.packet_read.specs.declared.move_packet.MovePacket.{MovePacket}
 use Rattle.packet_read.specs.Reading.{reading}
 use Rattle.entity_slots.specs.declared.join_fault.JoinFault.{JoinFault}
 use Rattle.entity_slots.specs.Ports as slots
-use Rattle.entity_slots.specs.Places.{place_for, IsLeastFree}
-use Rattle.entity_slots.proofs.Found.{place_for-least, slot_of-joined}
+use Rattle.entity_slots.specs.FreeSlots.{slot_for, IsLeastFree}
+use Rattle.entity_slots.proofs.Found.{slot_for-least, slot_of-joined}
 use Rattle.arena_map.specs.Maps.{MapView, solids_of}
 use Rattle.world_tree.specs.Live.{record_at}
 use Rattle.world_tree.specs.Queries.{is_free, solids_in}
@@ -30,12 +30,12 @@ use Rattle.client_ports.specs.declared.client.Client.{Client}
 use Rattle.client_ports.specs.declared.client.LiveSlot.{LiveSlot}
 use Rattle.client_ports.specs.declared.refusal.Refusal.{Refusal}
 use Rattle.client_ports.specs.declared.refusal.Refusal.TheVariants as refusal
-use Rattle.client_ports.specs.declared.spawns.Place.{Place}
+use Rattle.client_ports.specs.declared.spawns.JoinPoint.{JoinPoint}
 use Rattle.client_ports.specs.Clients.{client, client_at, port_of, ports_of, live_slot, live_at, live_with, AreClients}
 use Rattle.client_ports.specs.States.{State, IsState}
 use Rattle.packet_read.specs.Commands.{commands_of}
 use Rattle.client_ports.specs.NewMoves.{new_among, numbers_in, last_in}
-use Rattle.client_ports.specs.Answers.{free_spawn, place_at, place_in, join_answer, leaving, leave_by, leave_answer, moved, move_by, move_answer}
+use Rattle.client_ports.specs.Answers.{free_spawn, join_point, join_point_in, join_answer, live_slot_leaving, leave_by, leave_answer, with_new_moves, move_by, move_answer}
 use Rattle.client_ports.specs.Receiving.{Receiving, after_join, after_leave, after_move, after_packet, after_arrival, command_in}
 use Rattle.client_ports.specs.Laws.{IsClear, AreAccepted, AcceptedNumbersRise, IsAcceptedLeave, IsRefused, IsJoined, IsLeave, AreCommandsOf, IsMove}
 use Rattle.client_ports.proofs.NewMoves.{Rise, new-rise, commands-rise}
@@ -56,30 +56,30 @@ ports_apart clients are i j c d at_i at_j same =
 -- ---- joins
 
 -- what a join that has a slot gets
-pub record IsGot (map : MapView) (records : List (Option Rec)) (slots : Result ℕ JoinFault) (to : Place) : Type 0 where
+pub record IsGot (map : MapView) (records : List (Option Rec)) (slots : Result ℕ JoinFault) (to : JoinPoint) : Type 0 where
   pub slot : slots ≡ Ok to.slot
   pub spawn : free_spawn (solids_of map) records to.slot map.spawns ≡ Some to.at
 
-pub got : (map : MapView) (records : List (Option Rec)) (slots : Result ℕ JoinFault) (to : Place) → place_in map records slots ≡ Ok to → IsGot map records slots to
+pub got : (map : MapView) (records : List (Option Rec)) (slots : Result ℕ JoinFault) (to : JoinPoint) → join_point_in map records slots ≡ Ok to → IsGot map records slots to
 got map records (Err why) to e = absurd (err-ok e)
   where
     err-ok : {X E : Type 0} {x : X} {f : E} → ◌≡◌ {A = Result X E} (Err f) (Ok x) → ⊥
     err-ok h = cc
 got map records (Ok slot) to e = by (free_spawn (solids_of map) records slot map.spawns) refl e
   where
-    by : (o : Option Vec3) → free_spawn (solids_of map) records slot map.spawns ≡ o → ok_or (option_map (place_at slot) o) refusal.Crowded ≡ Ok to → IsGot map records (Ok slot) to
+    by : (o : Option Vec3) → free_spawn (solids_of map) records slot map.spawns ≡ o → ok_or (option_map (join_point slot) o) refusal.Crowded ≡ Ok to → IsGot map records (Ok slot) to
     by None f h = cc
     by (Some at) f h =
-        let same = same_Ok (place_at slot at) to h in
-        let P : Place → Type 0 = λ p. IsGot map records (Ok slot) p in
+        let same = same_Ok (join_point slot at) to h in
+        let P : JoinPoint → Type 0 = λ p. IsGot map records (Ok slot) p in
         subst P same (record { slot = refl; spawn = f })
 
 -- the slot of a join is the least free one
-pub slot_least : (map : MapView) (state : State) (port : ℕ) (to : Place) → AreClients state.clients → join_answer map state port ≡ Ok to → IsLeastFree (ports_of state.clients) to.slot
+pub slot_least : (map : MapView) (state : State) (port : ℕ) (to : JoinPoint) → AreClients state.clients → join_answer map state port ≡ Ok to → IsLeastFree (ports_of state.clients) to.slot
 slot_least map state port to are e =
-    let g = got map state.records (place_for (ports_of state.clients) port) to e in
+    let g = got map state.records (slot_for (ports_of state.clients) port) to e in
     let P : Result ℕ JoinFault → Type 0 = λ r. IfOk r (IsLeastFree (ports_of state.clients)) in
-    subst P g.slot (place_for-least (ports_of state.clients) port are.slots.count)
+    subst P g.slot (slot_for-least (ports_of state.clients) port are.slots.count)
 
 -- ---- moves
 
@@ -108,7 +108,7 @@ new-each last steps m =
 
 -- the commands of an accepted move packet have numbers above the last one, and are few
 pub steps_accepted : (clients : List (Option Client)) (port : ℕ) (steps : List MovePacket) (live : LiveSlot) → Rise (numbers_in steps) → move_answer clients port steps ≡ Ok live
-    → AreAccepted clients steps (new_among live.client.last steps) (moved live (new_among live.client.last steps))
+    → AreAccepted clients steps (new_among live.client.last steps) (with_new_moves live (new_among live.client.last steps))
 steps_accepted clients port steps live rise e = by (live_with clients port) refl e
   where
     some-false : (n : ℕ) → (n == 0) ≡ false → 1 ≤ n
@@ -120,13 +120,13 @@ steps_accepted clients port steps live rise e = by (live_with clients port) refl
     at : (l : LiveSlot) → client_at clients l.slot ≡ Some l.client → (leaves none many : Bool) → l.client.leaves ≡ leaves
         → (length (new_among l.client.last steps) == 0) ≡ none → nat_lt 8 (l.client.moves + length (new_among l.client.last steps)) ≡ many
         → (if leaves then Err refusal.Leaving else if none then Err refusal.Old else if many then Err refusal.Many else Ok l) ≡ Ok live
-        → AreAccepted clients steps (new_among live.client.last steps) (moved live (new_among live.client.last steps))
+        → AreAccepted clients steps (new_among live.client.last steps) (with_new_moves live (new_among live.client.last steps))
     at l in_slot true none many a b c h = cc
     at l in_slot false true many a b c h = cc
     at l in_slot false false true a b c h = cc
     at l in_slot false false false a b c h =
         let same = same_Ok l live h in
-        let P : LiveSlot → Type 0 = λ k. AreAccepted clients steps (new_among k.client.last steps) (moved k (new_among k.client.last steps)) in
+        let P : LiveSlot → Type 0 = λ k. AreAccepted clients steps (new_among k.client.last steps) (with_new_moves k (new_among k.client.last steps)) in
         subst P same (record {
           was = l.client;
           in_slot = in_slot;
@@ -140,7 +140,7 @@ steps_accepted clients port steps live rise e = by (live_with clients port) refl
         })
 
     by : (o : Option LiveSlot) → live_with clients port ≡ o → move_by o steps ≡ Ok live
-        → AreAccepted clients steps (new_among live.client.last steps) (moved live (new_among live.client.last steps))
+        → AreAccepted clients steps (new_among live.client.last steps) (with_new_moves live (new_among live.client.last steps))
     by None f h = cc
     by (Some l) f h =
         at l (live_at-found clients (slots.slot_of (ports_of clients) port) l f) l.client.leaves (length (new_among l.client.last steps) == 0)
@@ -155,10 +155,10 @@ pub leave_accepted : (clients : List (Option Client)) (port : ℕ) (live : LiveS
 leave_accepted clients port live e = by (live_with clients port) refl e
   where
     at : (l : LiveSlot) → client_at clients l.slot ≡ Some l.client → (leaves : Bool) → l.client.leaves ≡ leaves
-        → (if leaves then Err refusal.Leaving else Ok (leaving l)) ≡ Ok live → IsAcceptedLeave clients live
+        → (if leaves then Err refusal.Leaving else Ok (live_slot_leaving l)) ≡ Ok live → IsAcceptedLeave clients live
     at l in_slot true a h = cc
     at l in_slot false a h =
-        let same = same_Ok (leaving l) live h in
+        let same = same_Ok (live_slot_leaving l) live h in
         let P : LiveSlot → Type 0 = λ m. IsAcceptedLeave clients m in
         subst P same (record { was = l.client; in_slot = in_slot; stays = a; is = refl })
 
@@ -186,9 +186,9 @@ live_with-own clients port live e = by (slots.slot_of (ports_of clients) port) r
 leave-own : (clients : List (Option Client)) (port : ℕ) (live : LiveSlot) → leave_answer clients port ≡ Ok live → live.client.port ≡ port
 leave-own clients port live e = by (live_with clients port) refl e
   where
-    at : (l : LiveSlot) → l.client.port ≡ port → (leaves : Bool) → (if leaves then Err refusal.Leaving else Ok (leaving l)) ≡ Ok live → live.client.port ≡ port
+    at : (l : LiveSlot) → l.client.port ≡ port → (leaves : Bool) → (if leaves then Err refusal.Leaving else Ok (live_slot_leaving l)) ≡ Ok live → live.client.port ≡ port
     at l own true h = cc
-    at l own false h = sym (ap (λ (m : LiveSlot). m.client.port) (same_Ok (leaving l) live h)) ∙ own
+    at l own false h = sym (ap (λ (m : LiveSlot). m.client.port) (same_Ok (live_slot_leaving l) live h)) ∙ own
 
     by : (o : Option LiveSlot) → live_with clients port ≡ o → leave_by o ≡ Ok live → live.client.port ≡ port
     by None f h = cc
@@ -218,7 +218,7 @@ module _ (map : MapView) (frame : ℕ) (r : Receiving) (place : ℕ) (a : Arriva
   abbrev IsAnswer : Receiving → Type 0
   IsAnswer next = (IsRefused r next place ⊎ IsJoined map r next a) ⊎ (IsLeave r next a ⊎ IsMove frame r next a)
 
-  join-one : reading a.bytes ≡ Ok Join → (to : Result Place Refusal) → join_answer map r.state a.port ≡ to → IsAnswer (after_join to r place a.port)
+  join-one : reading a.bytes ≡ Ok Join → (to : Result JoinPoint Refusal) → join_answer map r.state a.port ≡ to → IsAnswer (after_join to r place a.port)
   join-one read (Err why) e = inl (inl (record { why = why; state = refl; lists = refl }))
   join-one read (Ok to) e = inl (inr (record { to = to; read = read; answer = e; state = refl; lists = refl }))
 
@@ -245,7 +245,7 @@ module _ (map : MapView) (frame : ℕ) (r : Receiving) (place : ℕ) (a : Arriva
   move-one packet read (Ok live) e =
       let new = new_among live.client.last (commands_of packet) in
       inr (inr (record {
-        live = moved live new;
+        live = with_new_moves live new;
         packet = packet;
         new = new;
         commands = map_list (command_in frame live.slot) new;
@@ -261,8 +261,8 @@ module _ (map : MapView) (frame : ℕ) (r : Receiving) (place : ℕ) (a : Arriva
   packet-one (Err why) e = inl (inl (record { why = refusal.Packet why; state = refl; lists = refl }))
   packet-one (Ok Join) e = join-one e (join_answer map r.state a.port) refl
   packet-one (Ok Leave) e = leave-one e (leave_answer r.state.clients a.port) refl
-  packet-one (Ok (Step m)) e = move-one (Step m) e (move_answer r.state.clients a.port (commands_of (Step m))) refl
-  packet-one (Ok (Steps s)) e = move-one (Steps s) e (move_answer r.state.clients a.port (commands_of (Steps s))) refl
+  packet-one (Ok (Move m)) e = move-one (Move m) e (move_answer r.state.clients a.port (commands_of (Move m))) refl
+  packet-one (Ok (Moves s)) e = move-one (Moves s) e (move_answer r.state.clients a.port (commands_of (Moves s))) refl
 
   pub one_answer : let next = after_arrival map frame r place a in (IsRefused r next place ⊎ IsJoined map r next a) ⊎ (IsLeave r next a ⊎ IsMove frame r next a)
   one_answer = packet-one (reading a.bytes) refl
@@ -320,9 +320,9 @@ clear-live body (Some s ∷ records) except h id r e solid apart = by (is_solid 
     by false t g (suc id) f more = more g id f
 
 -- nobody is added into a solid
-pub join_clear : (map : MapView) (state : State) (port : ℕ) (to : Place) → AreClients state.clients → IsState map state → join_answer map state port ≡ Ok to → IsClear map state to
+pub join_clear : (map : MapView) (state : State) (port : ℕ) (to : JoinPoint) → AreClients state.clients → IsState map state → join_answer map state port ≡ Ok to → IsClear map state to
 join_clear map state port to are is e =
-    let g = got map state.records (place_for (ports_of state.clients) port) to e in
+    let g = got map state.records (slot_for (ports_of state.clients) port) to e in
     let least = slot_least map state port to are e in
     let free = find-passes (λ at. is_free state.records (player_body at) (solids_of map) to.slot) map.spawns to.at g.spawn in
     let parts = both_not (is_blocked (player_body to.at) (solids_of map)) (is_blocked (player_body to.at) (map_bodies to.slot)) free in

@@ -5,7 +5,7 @@ pub mod Valid
 pub mod Arrivals
 pub mod NewMoves
 pub mod Facts
-pub mod Reasons
+pub mod Refusals
 pub mod Linking
 pub mod Leavers
 pub mod Changes

@@ -8,14 +8,14 @@ use Rattle.std.proofs.lemmas.List.Sums.{length-filter, count_by-le-length}
 use Rattle.std.proofs.lemmas.Bool.{ltb-false, ltb-true}
 use Rattle.packet_read.specs.declared.move_packet.MovePacket.{MovePacket}
 use Rattle.packet_read.specs.declared.packet.Packet.{Packet}
-use Rattle.packet_read.specs.declared.packet.Packet.TheVariants.{Join, Step, Leave, Steps}
+use Rattle.packet_read.specs.declared.packet.Packet.TheVariants.{Join, Move, Leave, Moves}
 use Rattle.packet_read.specs.declared.block_list.CmdBlock.{CmdBlock}
 use Rattle.packet_read.specs.declared.packet_fault.PacketFault.{PacketFault}
-use Rattle.packet_read.specs.declared.steps_packet.StepsPacket.{StepsPacket}
-use Rattle.packet_read.specs.Commands.{commands_of, numbered, numbered_from, first_seq}
-use Rattle.packet_read.specs.Spelling.{IsAllowedBlock, IsAllowedSteps}
-use Rattle.packet_read.specs.Cause as cause
-use Rattle.packet_read.specs.Cause.{Form, form_in, blocks_in, cause_of, count_in, seq_in}
+use Rattle.packet_read.specs.declared.moves_packet.MovesPacket.{MovesPacket}
+use Rattle.packet_read.specs.Commands.{commands_of, move_with_number, moves_numbered_from, first_seq}
+use Rattle.packet_read.specs.Spelling.{IsAllowedBlock, IsAllowedMoves}
+use Rattle.packet_read.specs.Faults as faults
+use Rattle.packet_read.specs.Faults.{Form, form_in, blocks_in, fault_of, count_in, seq_in}
 use Rattle.packet_read.specs.Reading.{reading, packet_of, answer}
 use Rattle.packet_read.proofs.Numbers.{length-numbered}
 use Rattle.packet_read.proofs.Blocks.{length_blocks}
@@ -49,20 +49,20 @@ new-rise last (m ∷ steps) rise = by (nat_lt last m.seq) refl (new-rise last st
     by false e more = more
 
 -- numbered commands have numbers that rise
-numbered-above : (n : ℕ) (blocks : List CmdBlock) → RiseFrom n (numbers_in (numbered_from (n + 1) blocks))
+numbered-above : (n : ℕ) (blocks : List CmdBlock) → RiseFrom n (numbers_in (moves_numbered_from (n + 1) blocks))
 numbered-above n [] = tt
 numbered-above n (b ∷ more) = (omega arith, numbered-above (n + 1) more)
 
-numbered-rise : (first : ℕ) (blocks : List CmdBlock) → Rise (numbers_in (numbered_from first blocks))
+numbered-rise : (first : ℕ) (blocks : List CmdBlock) → Rise (numbers_in (moves_numbered_from first blocks))
 numbered-rise first [] = tt
 numbered-rise first (b ∷ more) = numbered-above first more
 
 -- the numbers of a packet's commands rise
 pub commands-rise : (p : Packet) → Rise (numbers_in (commands_of p))
 commands-rise Join = tt
-commands-rise (Step m) = tt
+commands-rise (Move m) = tt
 commands-rise Leave = tt
-commands-rise (Steps s) = numbered-rise (first_seq s) s.cmds
+commands-rise (Moves s) = numbered-rise (first_seq s) s.cmds
 
 -- no more commands are new than there are
 pub new-few : (last : ℕ) (steps : List MovePacket) → length (new_among last steps) ≤ length steps
@@ -75,10 +75,10 @@ new-few last steps =
 
 -- a packet of any form has at most 3 commands
 form-few : (form : Form) (bytes : List ℕ) → length (commands_of (packet_of form bytes)) ≤ 3
-form-few cause.join bytes = omega arith
-form-few cause.move bytes = omega arith
-form-few cause.leave bytes = omega arith
-form-few cause.steps bytes =
+form-few faults.join bytes = omega arith
+form-few faults.move bytes = omega arith
+form-few faults.leave bytes = omega arith
+form-few faults.moves bytes =
     let blocks = blocks_in bytes in
     let count = length_blocks (min (count_in bytes) 3) (drop 7 bytes) in
     let all = length-numbered (first_seq (record { seq = seq_in bytes; cmds = blocks })) blocks in
@@ -86,7 +86,7 @@ form-few cause.steps bytes =
 
 -- a packet that is read has at most 3 commands
 pub read-few : (bytes : List ℕ) (p : Packet) → reading bytes ≡ Ok p → length (commands_of p) ≤ 3
-read-few bytes p e = by (cause_of bytes) e
+read-few bytes p e = by (fault_of bytes) e
   where
     same : (q : Packet) → ◌≡◌ {A = Result Packet PacketFault} (Ok q) (Ok p) → q ≡ p
     same q h = ap (λ (r : Result Packet PacketFault). elim r [ Ok v ↦ v | Err f ↦ p ]) h
@@ -96,13 +96,13 @@ read-few bytes p e = by (cause_of bytes) e
     by None h = subst (λ (q : Packet). length (commands_of q) ≤ 3) (same (packet_of (form_in bytes) bytes) h) (form-few (form_in bytes) bytes)
 
 -- numbered commands take their time
-numbered-time : (first : ℕ) (blocks : List CmdBlock) → All IsAllowedBlock blocks → All TakesItsTime (numbered_from first blocks)
+numbered-time : (first : ℕ) (blocks : List CmdBlock) → All IsAllowedBlock blocks → All TakesItsTime (moves_numbered_from first blocks)
 numbered-time first [] allowed = All-nil TakesItsTime
 numbered-time first (b ∷ more) allowed =
     let one = All-head IsAllowedBlock b more allowed in
-    All-cons TakesItsTime (numbered first b) (numbered_from (first + 1) more) (record { least = one.least; most = one.most })
+    All-cons TakesItsTime (move_with_number first b) (moves_numbered_from (first + 1) more) (record { least = one.least; most = one.most })
     (numbered-time (first + 1) more (All-tail IsAllowedBlock b more allowed))
 
 -- and so do the commands of a packet of version 2
-pub steps-time : (s : StepsPacket) → IsAllowedSteps s → All TakesItsTime (commands_of (Steps s))
+pub steps-time : (s : MovesPacket) → IsAllowedMoves s → All TakesItsTime (commands_of (Moves s))
 steps-time s allowed = numbered-time (first_seq s) s.cmds allowed.blocks

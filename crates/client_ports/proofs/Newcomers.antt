@@ -5,7 +5,7 @@ use Rattle.packet_read.specs.declared.packet.Packet.{Packet}
 use Rattle.packet_read.specs.declared.packet_fault.PacketFault.{PacketFault}
 use Rattle.arena_map.specs.Maps.{MapView}
 use Rattle.client_ports.specs.declared.refusal.Refusal.{Refusal}
-use Rattle.client_ports.specs.declared.spawns.Place.{Place}
+use Rattle.client_ports.specs.declared.spawns.JoinPoint.{JoinPoint}
 use Rattle.client_ports.specs.Clients.{new_client}
 use Rattle.client_ports.specs.States.{State, IsServerState, newcomer, with_newcomer}
 use Rattle.client_ports.specs.Answers.{join_answer}
@@ -35,7 +35,7 @@ new-player slot at = record {
 new-client : (port : ℕ) → IsNewClient port (new_client port)
 new-client port = record { port_is = refl; last = refl; leaves = refl; moves = refl }
 
-added : (map : MapView) (state : State) (port : ℕ) (to : Place) → IsServerState map state → join_answer map state port ≡ Ok to
+added : (map : MapView) (state : State) (port : ℕ) (to : JoinPoint) → IsServerState map state → join_answer map state port ≡ Ok to
     → HasNewcomer state (with_newcomer state port to.slot to.at) port to
 added map state port to is answer =
     let below = (slot_least map state port to is.clients answer).in_range in
@@ -60,5 +60,5 @@ pub joins_add_newcomers : JoinsAddNewcomers
 joins_add_newcomers map frame r place a to is read answer =
     let after : Result Packet PacketFault → Receiving = λ packet. after_packet map frame packet r place a.port in
     let next : (after_arrival map frame r place a).state ≡ with_newcomer r.state a.port to.slot to.at =
-    ap (λ packet. (after packet).state) read ∙ ap (λ (where_to : Result Place Refusal). (after_join where_to r place a.port).state) answer in
+    ap (λ packet. (after packet).state) read ∙ ap (λ (where_to : Result JoinPoint Refusal). (after_join where_to r place a.port).state) answer in
     subst (λ (s : State). HasNewcomer r.state s a.port to) (sym next) (added map r.state a.port to is answer)

@@ -7,7 +7,7 @@ use Rattle.entity_slots.specs.Ports.{no_ports, port_at, AreSlots, with_port, wit
 use Rattle.entity_slots.proofs.Changes.{no_ports-are_slots, with_port-are_slots, without_slot-are_slots}
 use Rattle.client_ports.specs.declared.client.Client.{Client}
 use Rattle.client_ports.specs.declared.client.LiveSlot.{LiveSlot}
-use Rattle.client_ports.specs.Clients.{no_clients, client_at, port_of, ports_of, live_slot, new_client, with_client, ArePorts, IsUpdate, IsPlaceFor}
+use Rattle.client_ports.specs.Clients.{no_clients, client_at, port_of, ports_of, live_slot, new_client, with_client, ArePorts, IsUpdate, IsSlotFor}
 
 -- there are as many slots as clients
 pub client_count : (clients : List (Option Client)) → AreSlots (ports_of clients) → length clients ≡ 64
@@ -56,7 +56,7 @@ no_clients-are_ports = record {
     ]
 
 -- the slots stay those of the clients where a port joins in a free slot
-pub join-are_ports : (ports : List (Option ℕ)) (clients : List (Option Client)) (port slot : ℕ) → ArePorts ports clients → IsPlaceFor clients port slot
+pub join-are_ports : (ports : List (Option ℕ)) (clients : List (Option Client)) (port slot : ℕ) → ArePorts ports clients → IsSlotFor clients port slot
     → ArePorts (with_port ports slot port) (with_client clients (live_slot slot (new_client port)))
 join-are_ports ports clients port slot are to =
     let written = map-set port_of clients slot (Some (new_client port)) in

@@ -10,13 +10,13 @@ use Rattle.entity_recs.specs.declared.rec.Rec.{Rec}
 use Rattle.entity_recs.specs.Bodies.{body_of}
 use Rattle.packet_read.specs.declared.move_packet.MovePacket.{MovePacket}
 use Rattle.packet_read.specs.Commands.{commands_of}
-use Rattle.entity_slots.specs.Places.{place_for}
+use Rattle.entity_slots.specs.FreeSlots.{slot_for}
 use Rattle.arena_map.specs.Maps.{MapView, IsMap, IsSpawn, solids_of}
 use Rattle.world_tree.specs.Live.{record_at}
 use Rattle.packet_read.specs.declared.arrival.Arrival.{Arrival}
 use Rattle.client_ports.specs.declared.client.Client.{Client}
 use Rattle.client_ports.specs.declared.client.LiveSlot.{LiveSlot}
-use Rattle.client_ports.specs.declared.spawns.Place.{Place}
+use Rattle.client_ports.specs.declared.spawns.JoinPoint.{JoinPoint}
 use Rattle.client_ports.specs.Clients.{client, client_at, port_of, ports_of, live_slot, new_client, with_client, AreClients, IsUpdate}
 use Rattle.client_ports.specs.States.{State, state_of, with_newcomer, with_update, newcomer, IsServerState}
 use Rattle.client_ports.specs.Answers.{join_answer}
@@ -65,7 +65,7 @@ update-move clients steps new live are by = record {
 -- what a packet changes in the state: nothing, a player that joins, or another client in a live slot
 record IsJoin (map : MapView) (before after : State) : Type 0 where
   port : ℕ
-  to : Place
+  to : JoinPoint
   answer : join_answer map before port ≡ Ok to
   is : after ≡ with_newcomer before port to.slot to.at
 
@@ -119,11 +119,11 @@ find-all {X} p P (y ∷ ys) x e all = by (p y) e (λ f. find-all p P ys x f (All
     by true f more = subst P (same_Some y x f) (All-head P y ys all)
     by false f more = more f
 
-server-join : (map : MapView) (state : State) (port : ℕ) (to : Place) → IsMap map → IsServerState map state → join_answer map state port ≡ Ok to → IsServerState map (with_newcomer state port to.slot to.at)
+server-join : (map : MapView) (state : State) (port : ℕ) (to : JoinPoint) → IsMap map → IsServerState map state → join_answer map state port ≡ Ok to → IsServerState map (with_newcomer state port to.slot to.at)
 server-join map state port to rules is e =
     let new = join-newcomer map state port to e in
     let few = client_count state.clients is.clients.slots in
-    let spawn = find-all _ (IsSpawn map.bounds) map.spawns to.at (got map state.records (place_for (ports_of state.clients) port) to e).spawn rules.spawns in
+    let spawn = find-all _ (IsSpawn map.bounds) map.spawns to.at (got map state.records (slot_for (ports_of state.clients) port) to e).spawn rules.spawns in
     record {
       clients = clients-join state.clients port to.slot is.clients new;
       places = length-set state.records to.slot (Some (newcomer to.slot to.at)) ∙ is.places;
@@ -159,7 +159,7 @@ server_received map frame state arrivals rules is = server-through map frame _ 0
 
 -- ---- bodies stay clear
 
-clear-join : (map : MapView) (state : State) (to : Place) → IsClear map state to → AreClear map state.records → AreClear map (slice_set state.records to.slot (Some (newcomer to.slot to.at)))
+clear-join : (map : MapView) (state : State) (to : JoinPoint) → IsClear map state to → AreClear map state.records → AreClear map (slice_set state.records to.slot (Some (newcomer to.slot to.at)))
 clear-join map state to new are = record {
   of_the_map = λ id r at player. elim (read-set records to.slot id (Some me)) [
     | inl here ↦ subst (λ (s : Rec). is_blocked (body_of s) (solids_of map) ≡ false) (mine r (sym here.2 ∙ at)) new.of_the_map

@@ -15,11 +15,11 @@ use Rattle.arena_geo.proofs.Overlaps.{overlaps-flips}
 use Rattle.entity_recs.specs.declared.kind.Kind.{Kind}
 use Rattle.entity_recs.specs.declared.kind.Kind.TheVariants as kinds
 use Rattle.entity_recs.specs.declared.rec.Rec.{Rec}
-use Rattle.entity_recs.specs.Bodies.{standing, body_of}
+use Rattle.entity_recs.specs.Bodies.{box_at_origin, body_of}
 use Rattle.entity_recs.specs.Kinds.{is_solid, is_item}
 use Rattle.arena_map.specs.declared.map_line.MapLine.{MapLine}
 use Rattle.arena_map.specs.declared.map_line.MapLine.TheVariants.{Arena, Block, Spawn, Item, Teleport, Goal, Lift, Depth, Shots}
-use Rattle.arena_map.specs.Places.{shaft, shaft_of}
+use Rattle.arena_map.specs.Positions.{shaft, shaft_of}
 use Rattle.arena_map.specs.Things.{record_of}
 use Rattle.arena_map.specs.Maps.{MapView, IsMap, IsThingInside}
 use Rattle.arena_map.specs.Validity.{IsOpeningWorld}
@@ -73,7 +73,7 @@ axis lo hi rise low high up a b h =
     both_true (below lo low high up b parts.0) (below low lo hi rise a parts.1)
 
 shafts-overlap : (lo hi : Vec3) (rise : ℤ) (low high : Vec3) (up : ℤ) → pos 0 ≤ℤ rise → pos 0 ≤ℤ up
-    → overlaps (standing lo zero_vector (minus hi lo)) (standing low zero_vector (minus high low)) ≡ true → overlaps (shaft lo hi rise) (shaft low high up) ≡ true
+    → overlaps (box_at_origin lo zero_vector (minus hi lo)) (box_at_origin low zero_vector (minus high low)) ≡ true → overlaps (shaft lo hi rise) (shaft low high up) ≡ true
 shafts-overlap lo hi rise low high up a b h =
     let none : pos 0 ≤ℤ pos 0 = omega (arith, ints) in
     let t = three_pass _ _ _ h in
@@ -88,7 +88,7 @@ record IsLiftAt (map : MapView) (id : ℕ) (r : Rec) : Type 0 where
   low : 64 ≤ id
   at : slice_get map.things (id - 64) ≡ Some (Lift lo hi rise speed)
   upward : pos 0 ≤ℤ rise
-  body : body_of r ≡ standing lo zero_vector (minus hi lo)
+  body : body_of r ≡ box_at_origin lo zero_vector (minus hi lo)
 
 no-item : (k : Kind) → is_item k ≡ true → is_solid k ≡ true → ⊥
 no-item kinds.Player i s = cc
@@ -129,8 +129,8 @@ solid-is_lift map records id r rules opening at solid = let f = found-in map id 
 lifts-apart : (map : MapView) (i j : ℕ) (r s : Rec) → IsMap map → IsLiftAt map i r → IsLiftAt map j s → i < j → overlaps (body_of r) (body_of s) ≡ false
 lifts-apart map i j r s rules a b less = elim (cases_Bool (overlaps (body_of r) (body_of s))) [
   | inl yes_they ↦
-      let bodies : overlaps (standing a.lo zero_vector (minus a.hi a.lo)) (standing b.lo zero_vector (minus b.hi b.lo)) ≡ true =
-      sym (ap (λ (x : Bounds). overlaps x (body_of s)) a.body ∙ ap (overlaps (standing a.lo zero_vector (minus a.hi a.lo))) b.body) ∙ yes_they in
+      let bodies : overlaps (box_at_origin a.lo zero_vector (minus a.hi a.lo)) (box_at_origin b.lo zero_vector (minus b.hi b.lo)) ≡ true =
+      sym (ap (λ (x : Bounds). overlaps x (body_of s)) a.body ∙ ap (overlaps (box_at_origin a.lo zero_vector (minus a.hi a.lo))) b.body) ∙ yes_they in
       let shafts = shafts-overlap a.lo a.hi a.rise b.lo b.hi b.rise a.upward b.upward bodies in
       let apart = kept-pair shaft_of (λ one other. overlaps one other ≡ false) map.things (i - 64) (j - 64) (Lift a.lo a.hi a.rise a.speed) (Lift b.lo b.hi b.rise b.speed)
       (shaft a.lo a.hi a.rise) (shaft b.lo b.hi b.rise) rules.shafts_apart (omega (arith, less, a.low, b.low)) a.at b.at refl refl in

@@ -15,11 +15,11 @@ use Rattle.client_ports.specs.declared.refusal.Refusal.{Refusal}
 use Rattle.client_ports.specs.States.{State, IsServerState}
 use Rattle.client_ports.specs.Lists.{Lists, no_lists, with_refusal}
 use Rattle.client_ports.specs.Receiving.{Receiving, receiving_of, after_refusal, after_arrival, after_arrivals, received}
-use Rattle.client_ports.specs.Reasons.{HasReason}
+use Rattle.client_ports.specs.Refusals.{RefusalHolds}
 use Rattle.client_ports.specs.Laws.{IsRefused, IsJoined, IsLeave, IsMove}
 use Rattle.client_ports.specs.Frames.{PacketsAreTakenInTurn, IsRefusedIn, places_of, RefusalsHaveTheirPlaces}
 use Rattle.client_ports.proofs.Facts.{one_answer}
-use Rattle.client_ports.proofs.Reasons.{refused_with_reason}
+use Rattle.client_ports.proofs.Refusals.{refused_where_it_holds}
 use Rattle.client_ports.proofs.Staying.{server_next}
 
 -- ---- in turn
@@ -51,12 +51,12 @@ record IsRefusedFrom (map : MapView) (frame : ℕ) (r : Receiving) (place : ℕ)
   there : t.place ≡ place + number
   a : Arrival
   at : slice_get arrivals number ≡ Some a
-  reason : HasReason map (after_arrivals map frame r place (take number arrivals)).state (reading a.bytes) a.port t.why
+  holds : RefusalHolds map (after_arrivals map frame r place (take number arrivals)).state (reading a.bytes) a.port t.why
 
 -- what one arrival adds to the refusals
 record IsRefusedNow (map : MapView) (r : Receiving) (place : ℕ) (a : Arrival) (t : Refused) : Type 0 where
   there : t.place ≡ place
-  reason : HasReason map r.state (reading a.bytes) a.port t.why
+  holds : RefusalHolds map r.state (reading a.bytes) a.port t.why
 
 refusal_now : (map : MapView) (frame : ℕ) (r : Receiving) (place : ℕ) (a : Arrival) (t : Refused) → IsServerState map r.state
     → Contains (after_arrival map frame r place a).lists.refused t → Contains r.lists.refused t ⊎ IsRefusedNow map r place a t
@@ -72,12 +72,12 @@ refusal_now map frame r place a t is has = by (one_answer map frame r place a)
     by (inl (inl f)) =
         let this : Refused = record { place = place; why = f.why } in
         let is_next : next ≡ after_refusal r place f.why = λ i. record { state = f.state i; lists = f.lists i } in
-        let reason = (refused_with_reason map frame r place a f.why is.clients is.fits).0 is_next in
+        let holds = (refused_where_it_holds map frame r place a f.why is.clients is.fits).0 is_next in
         elim (Contains-push_cases r.lists.refused this t (same (with_refusal r.lists place f.why) f.lists)) [
           | inl before ↦ inl before
           | inr now ↦ inr (record {
             there = ap (λ (u : Refused). u.place) (sym now);
-            reason = subst (λ (u : Refused). HasReason map r.state (reading a.bytes) a.port u.why) now reason;
+            holds = subst (λ (u : Refused). RefusalHolds map r.state (reading a.bytes) a.port u.why) now holds;
           })
         ]
     by (inl (inr j)) = inl (same _ j.lists)
@@ -114,28 +114,28 @@ refused_at map frame r place (a ∷ more) t rules is has =
     elim (refused_at map frame next (place + 1) more t rules (server_next map frame r place a rules is) has) [
       | inl h ↦ elim (refusal_now map frame r place a t is h) [
         | inl before ↦ inl before
-        | inr now ↦ inr (record { number = zero; there = omega (arith, now.there); a = a; at = refl; reason = now.reason })
+        | inr now ↦ inr (record { number = zero; there = omega (arith, now.there); a = a; at = refl; holds = now.holds })
       ]
-      | inr later ↦ inr (record { number = suc later.number; there = omega (arith, later.there); a = later.a; at = later.at; reason = later.reason })
+      | inr later ↦ inr (record { number = suc later.number; there = omega (arith, later.there); a = later.a; at = later.at; holds = later.holds })
     ]
 
 -- and each arrival with a reason has its refusal
 refused_there : (map : MapView) (frame : ℕ) (r : Receiving) (place number : ℕ) (arrivals : List Arrival) (a : Arrival) (t : Refused) → IsMap map → IsServerState map r.state
     → t.place ≡ place + number → slice_get arrivals number ≡ Some a
-    → HasReason map (after_arrivals map frame r place (take number arrivals)).state (reading a.bytes) a.port t.why
+    → RefusalHolds map (after_arrivals map frame r place (take number arrivals)).state (reading a.bytes) a.port t.why
     → Contains (after_arrivals map frame r place arrivals).lists.refused t
-refused_there map frame r place number [] a t rules is there at reason = absurd (none-some a at)
-refused_there map frame r place zero (b ∷ more) a t rules is there at reason =
+refused_there map frame r place number [] a t rules is there at holds = absurd (none-some a at)
+refused_there map frame r place zero (b ∷ more) a t rules is there at holds =
     let e : b ≡ a = same_Some b a at in
-    let why = subst (λ (x : Arrival). HasReason map r.state (reading x.bytes) x.port t.why) (sym e) reason in
-    let next = (refused_with_reason map frame r place b t.why is.clients is.fits).1 why in
+    let why = subst (λ (x : Arrival). RefusalHolds map r.state (reading x.bytes) x.port t.why) (sym e) holds in
+    let next = (refused_where_it_holds map frame r place b t.why is.clients is.fits).1 why in
     let this : Refused = record { place = place; why = t.why } in
     let here : place ≡ t.place = omega (arith, there) in
     let same : this ≡ t = λ i. record { place = here i; why = t.why } in
     let added : Contains (after_refusal r place t.why).lists.refused t = subst (Contains (after_refusal r place t.why).lists.refused) same (Contains-push r.lists.refused this) in
     kept_through map frame (after_arrival map frame r place b) (place + 1) more t (subst (λ (n : Receiving). Contains n.lists.refused t) (sym next) added)
-refused_there map frame r place (suc number) (b ∷ more) a t rules is there at reason =
-    refused_there map frame (after_arrival map frame r place b) (place + 1) number more a t rules (server_next map frame r place b rules is) (omega (arith, there)) at reason
+refused_there map frame r place (suc number) (b ∷ more) a t rules is there at holds =
+    refused_there map frame (after_arrival map frame r place b) (place + 1) number more a t rules (server_next map frame r place b rules is) (omega (arith, there)) at holds
 
 -- both ways
 refusals_placed : (map : MapView) (frame : ℕ) (state : State) (arrivals : List Arrival) (t : Refused) → IsMap map → IsServerState map state
@@ -154,12 +154,12 @@ refusals_placed map frame state arrivals t rules is = (one, other)
           record {
             a = f.a;
             at = ap (slice_get arrivals) (sym same) ∙ f.at;
-            reason = subst (λ k. HasReason map (after_arrivals map frame start 0 (take k arrivals)).state (reading f.a.bytes) f.a.port t.why) same f.reason;
+            holds = subst (λ k. RefusalHolds map (after_arrivals map frame start 0 (take k arrivals)).state (reading f.a.bytes) f.a.port t.why) same f.holds;
           }
     ]
 
     other : IsRefusedIn map frame state arrivals t → Contains (after_arrivals map frame start 0 arrivals).lists.refused t
-    other f = refused_there map frame start 0 t.place arrivals f.a t rules is (omega arith) f.at f.reason
+    other f = refused_there map frame start 0 t.place arrivals f.a t rules is (omega arith) f.at f.holds
 
 -- ---- the places rise
 

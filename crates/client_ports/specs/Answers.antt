@@ -1,4 +1,4 @@
--- What a packet is answered: what it changes, or why it is refused, the first reason that holds.
+-- What a packet is answered: what it changes, or the first refusal that holds.
 use Rattle.std.specs.Prelude.{ℕ, ◌+◌, ◌==◌, true, nat_lt, List, length, Option, Some, None, option_map, Result, Ok, Err}
 use Rattle.std.specs.Prelude.{ok_or, if◌then◌else◌}
 use Rattle.std.specs.List.{find}
@@ -9,7 +9,7 @@ use Rattle.entity_recs.specs.Bodies.{player_body}
 use Rattle.packet_read.specs.declared.move_packet.MovePacket.{MovePacket}
 use Rattle.entity_slots.specs.declared.join_fault.JoinFault.{JoinFault}
 use Rattle.entity_slots.specs.declared.join_fault.JoinFault.TheVariants as fault
-use Rattle.entity_slots.specs.Places.{place_for}
+use Rattle.entity_slots.specs.FreeSlots.{slot_for}
 use Rattle.arena_map.specs.Maps.{MapView, solids_of}
 use Rattle.world_tree.specs.Queries.{is_free}
 use Rattle.client_ports.specs.declared.client.Client.{Client}
@@ -17,7 +17,7 @@ use Rattle.client_ports.specs.declared.client.LiveSlot.{LiveSlot}
 use Rattle.client_ports.specs.declared.refusal.Refusal.{Refusal}
 use Rattle.client_ports.specs.declared.refusal.Refusal.TheVariants.{Already, Full, Crowded, NotJoined, Leaving, Old}
 use Rattle.client_ports.specs.declared.refusal.Refusal.TheVariants.{Many}
-use Rattle.client_ports.specs.declared.spawns.Place.{Place}
+use Rattle.client_ports.specs.declared.spawns.JoinPoint.{JoinPoint}
 use Rattle.client_ports.specs.NewMoves.{new_among, numbers_in, last_in}
 use Rattle.client_ports.specs.Clients.{client, ports_of, live_slot, live_with}
 use Rattle.client_ports.specs.States.{State}
@@ -29,8 +29,8 @@ refusal_of fault.Already = Already
 refusal_of fault.Full = Full
 
 -- the slot and the origin that a join gets
-abbrev pub place_at : ℕ → Vec3 → Place
-place_at slot at = record { slot = slot; at = at }
+abbrev pub join_point : ℕ → Vec3 → JoinPoint
+join_point slot at = record { slot = slot; at = at }
 
 -- the first spawn in line order at which a player's body overlaps no wall, no block and no body of a live solid but the
 -- slot's own
@@ -38,29 +38,29 @@ abbrev pub free_spawn : List Bounds → List (Option Rec) → ℕ → List Vec3 
 free_spawn solids records slot spawns = find (λ at. is_free records (player_body at) solids slot) spawns
 
 -- the place in the slot that a join gets
-abbrev pub place_in : MapView → List (Option Rec) → Result ℕ JoinFault → Result Place Refusal
-place_in map records (Err why) = Err (refusal_of why)
-place_in map records (Ok slot) =
-    ok_or (option_map (place_at slot) (free_spawn (solids_of map) records slot map.spawns)) Crowded
+abbrev pub join_point_in : MapView → List (Option Rec) → Result ℕ JoinFault → Result JoinPoint Refusal
+join_point_in map records (Err why) = Err (refusal_of why)
+join_point_in map records (Ok slot) =
+    ok_or (option_map (join_point slot) (free_spawn (solids_of map) records slot map.spawns)) Crowded
 
 -- the answer to a join
-abbrev pub join_answer : MapView → State → ℕ → Result Place Refusal
-join_answer map state port = place_in map state.records (place_for (ports_of state.clients) port)
+abbrev pub join_answer : MapView → State → ℕ → Result JoinPoint Refusal
+join_answer map state port = join_point_in map state.records (slot_for (ports_of state.clients) port)
 
 -- the client, leaving
-abbrev pub leaving : LiveSlot → LiveSlot
-leaving live = live_slot live.slot (client live.client.port live.client.last true live.client.moves)
+abbrev pub live_slot_leaving : LiveSlot → LiveSlot
+live_slot_leaving live = live_slot live.slot (client live.client.port live.client.last true live.client.moves)
 
 -- the client after these new moves: the number of the last of them is the last accepted one
-abbrev pub moved : LiveSlot → List MovePacket → LiveSlot
-moved live new =
+abbrev pub with_new_moves : LiveSlot → List MovePacket → LiveSlot
+with_new_moves live new =
     live_slot live.slot (client live.client.port (last_in live.client.last (numbers_in new)) live.client.leaves
     (live.client.moves + length new))
 
 -- the answer to a leave: the client, leaving
 abbrev pub leave_by : Option LiveSlot → Result LiveSlot Refusal
 leave_by None = Err NotJoined
-leave_by (Some live) = if live.client.leaves then Err Leaving else Ok (leaving live)
+leave_by (Some live) = if live.client.leaves then Err Leaving else Ok (live_slot_leaving live)
 
 -- the answer to a leave of a port
 abbrev pub leave_answer : List (Option Client) → ℕ → Result LiveSlot Refusal

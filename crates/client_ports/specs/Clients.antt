@@ -64,7 +64,7 @@ pub record IsUpdate (clients : List (Option Client)) (live : LiveSlot) : Type 0 
   pub few_moves : live.client.moves ≤ 8
 
 -- the port may be joined in this slot: it isn't joined, and the slot is free
-pub record IsPlaceFor (clients : List (Option Client)) (port slot : ℕ) : Type 0 where
+pub record IsSlotFor (clients : List (Option Client)) (port slot : ℕ) : Type 0 where
   pub in_range : slot < 64
   pub free : client_at clients slot ≡ None
   pub not_joined : slots.is_joined (ports_of clients) port ≡ false

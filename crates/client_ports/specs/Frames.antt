@@ -22,7 +22,7 @@ use Rattle.client_ports.specs.States.{State, state_of, IsServerState}
 use Rattle.client_ports.specs.Finishing.{is_leaver, finished}
 use Rattle.client_ports.specs.Lists.{no_lists}
 use Rattle.client_ports.specs.Laws.{IsCommandOf}
-use Rattle.client_ports.specs.Reasons.{HasReason}
+use Rattle.client_ports.specs.Refusals.{RefusalHolds}
 use Rattle.client_ports.specs.Receiving.{Receiving, receiving_of, after_arrival, received}
 
 -- ---- the packets of a frame, in turn
@@ -35,17 +35,17 @@ pub record PacketsAreTakenInTurn : Type 0 where
       → received map frame state (arrivals ++ a ∷ [])
       ≡ after_arrival map frame (received map frame state arrivals) (length arrivals) a
 
--- at its place is a packet for which the reason of the refusal holds, after the packets before it
+-- at its place is a packet for which the refusal holds, after the packets before it
 pub record IsRefusedIn (map : MapView) (frame : ℕ) (state : State) (arrivals : List Arrival) (t : Refused) : Type 0 where
   pub a : Arrival
   pub at : slice_get arrivals t.place ≡ Some a
-  pub reason : HasReason map (received map frame state (take t.place arrivals)).state (reading a.bytes) a.port t.why
+  pub holds : RefusalHolds map (received map frame state (take t.place arrivals)).state (reading a.bytes) a.port t.why
 
 -- the places of refusals
 abbrev pub places_of : List Refused → List ℕ
 places_of refused = map (λ t. t.place) refused
 
--- the refusals of a frame are those of the packets at their places, each for its reason, and no others; their places
+-- the refusals of a frame are those of the packets at their places, each where it holds, and no others; their places
 -- rise, so that each is listed once and in the order of arrival
 pub record RefusalsHaveTheirPlaces : Type 0 where
   pub each : (map : MapView) (frame : ℕ) (state : State) (arrivals : List Arrival) (t : Refused) → IsMap map

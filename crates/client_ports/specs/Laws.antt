@@ -11,22 +11,22 @@ use Rattle.packet_read.specs.declared.move_packet.MovePacket.{MovePacket}
 use Rattle.packet_read.specs.declared.packet.Packet.{Packet}
 use Rattle.packet_read.specs.declared.packet.Packet.TheVariants.{Join, Leave}
 use Rattle.packet_read.specs.Reading.{reading}
-use Rattle.entity_slots.specs.Places.{IsLeastFree}
+use Rattle.entity_slots.specs.FreeSlots.{IsLeastFree}
 use Rattle.arena_map.specs.Maps.{MapView, solids_of}
 use Rattle.world_tree.specs.Live.{record_at}
 use Rattle.packet_read.specs.declared.arrival.Arrival.{Arrival}
 use Rattle.client_ports.specs.declared.client.Client.{Client}
 use Rattle.client_ports.specs.declared.client.LiveSlot.{LiveSlot}
 use Rattle.client_ports.specs.declared.refusal.Refusal.{Refusal}
-use Rattle.client_ports.specs.declared.spawns.Place.{Place}
+use Rattle.client_ports.specs.declared.spawns.JoinPoint.{JoinPoint}
 use Rattle.client_ports.specs.Clients.{client, client_at, ports_of, AreClients}
 use Rattle.client_ports.specs.States.{State, IsState, with_newcomer, with_update}
 use Rattle.client_ports.specs.Lists.{with_join, with_moves, with_refusal}
 use Rattle.packet_read.specs.Commands.{commands_of}
 use Rattle.client_ports.specs.NewMoves.{new_among, numbers_in, last_in, RiseFrom}
-use Rattle.client_ports.specs.Answers.{join_answer, leave_answer, moved, move_answer}
+use Rattle.client_ports.specs.Answers.{join_answer, leave_answer, with_new_moves, move_answer}
 use Rattle.client_ports.specs.Receiving.{Receiving, after_refusal, after_arrival}
-use Rattle.client_ports.specs.Reasons.{HasNoRoom, HasReason}
+use Rattle.client_ports.specs.Refusals.{HasNoRoom, RefusalHolds}
 use Rattle.client_ports.specs.Finishing.{is_leaver, finished_client, finished}
 
 -- no two live slots share a port
@@ -36,11 +36,11 @@ PortsAreApart = (clients : List (Option Client)) → AreClients clients → (i j
 
 -- the slot that a join gets is the least free one
 abbrev pub SlotIsLeastFree : Type 0
-SlotIsLeastFree = (map : MapView) (state : State) (port : ℕ) (to : Place) → AreClients state.clients
+SlotIsLeastFree = (map : MapView) (state : State) (port : ℕ) (to : JoinPoint) → AreClients state.clients
     → join_answer map state port ≡ Ok to → IsLeastFree (ports_of state.clients) to.slot
 
 -- the body of a player that joins overlaps no wall and no block, and no body of a live solid
-pub record IsClear (map : MapView) (state : State) (to : Place) : Type 0 where
+pub record IsClear (map : MapView) (state : State) (to : JoinPoint) : Type 0 where
   pub of_the_map : is_blocked (player_body to.at) (solids_of map) ≡ false
   pub of_the_live : (id : ℕ) (r : Rec) → record_at state.records id ≡ Some r → is_solid r.kind ≡ true
       → overlaps (player_body to.at) (body_of r) ≡ false
@@ -48,11 +48,11 @@ pub record IsClear (map : MapView) (state : State) (to : Place) : Type 0 where
 -- nobody is added into a solid
 abbrev pub NobodyIsAddedIntoASolid : Type 0
 NobodyIsAddedIntoASolid =
-    (map : MapView) (state : State) (port : ℕ) (to : Place) → AreClients state.clients → IsState map state
+    (map : MapView) (state : State) (port : ℕ) (to : JoinPoint) → AreClients state.clients → IsState map state
     → join_answer map state port ≡ Ok to → IsClear map state to
 
 -- a join is put at the first spawn with room
-pub record IsAtFirstRoom (map : MapView) (state : State) (to : Place) : Type 0 where
+pub record IsAtFirstRoom (map : MapView) (state : State) (to : JoinPoint) : Type 0 where
   pub number : ℕ
   pub is_spawn : slice_get map.spawns number ≡ Some to.at
   pub room : IsClear map state to
@@ -61,7 +61,7 @@ pub record IsAtFirstRoom (map : MapView) (state : State) (to : Place) : Type 0 w
 -- a player that joins is put at a spawn with room, and no spawn before it in line order has room
 abbrev pub JoinsAreAtTheFirstRoom : Type 0
 JoinsAreAtTheFirstRoom =
-    (map : MapView) (state : State) (port : ℕ) (to : Place) → AreClients state.clients → IsState map state
+    (map : MapView) (state : State) (port : ℕ) (to : JoinPoint) → AreClients state.clients → IsState map state
     → join_answer map state port ≡ Ok to → IsAtFirstRoom map state to
 
 -- commands of a move packet are accepted: exactly those whose number is above the last accepted one of the client. Their
@@ -83,7 +83,7 @@ abbrev pub AcceptedNumbersRise : Type 0
 AcceptedNumbersRise = (clients : List (Option Client)) (port : ℕ) (packet : Packet) (live : LiveSlot)
     → move_answer clients port (commands_of packet) ≡ Ok live
     → let new = new_among live.client.last (commands_of packet) in
-    AreAccepted clients (commands_of packet) new (moved live new)
+    AreAccepted clients (commands_of packet) new (with_new_moves live new)
 
 -- a leave is accepted: the client didn't leave before, and nothing else of it changes
 pub record IsAcceptedLeave (clients : List (Option Client)) (live : LiveSlot) : Type 0 where
@@ -100,7 +100,7 @@ pub record IsRefused (r next : Receiving) (place : ℕ) : Type 0 where
 
 -- a packet is a join, and joins its port
 pub record IsJoined (map : MapView) (r next : Receiving) (a : Arrival) : Type 0 where
-  pub to : Place
+  pub to : JoinPoint
   pub read : reading a.bytes ≡ Ok Join
   pub answer : join_answer map r.state a.port ≡ Ok to
   pub state : next.state ≡ with_newcomer r.state a.port to.slot to.at
@@ -152,12 +152,12 @@ EachPacketHasOneAnswer = (map : MapView) (frame : ℕ) (r : Receiving) (place : 
     → let next = after_arrival map frame r place a in
     (IsRefused r next place ⊎ IsJoined map r next a) ⊎ (IsLeave r next a ⊎ IsMove frame r next a)
 
--- a packet is refused, for this refusal, exactly where the reason of the refusal holds and none before it
-abbrev pub RefusalsHaveReasons : Type 0
-RefusalsHaveReasons = (map : MapView) (frame : ℕ) (r : Receiving) (place : ℕ) (a : Arrival) (why : Refusal)
+-- a packet is refused, for this refusal, exactly where it holds and none before it
+abbrev pub RefusalsAreKnown : Type 0
+RefusalsAreKnown = (map : MapView) (frame : ℕ) (r : Receiving) (place : ℕ) (a : Arrival) (why : Refusal)
     → AreClients r.state.clients → IsState map r.state
     → (after_arrival map frame r place a ≡ after_refusal r place why)
-    ↔ HasReason map r.state (reading a.bytes) a.port why
+    ↔ RefusalHolds map r.state (reading a.bytes) a.port why
 
 -- the end of a frame takes out the clients that leave, with their players, and no other
 abbrev pub FinishTakesLeaversOut : Type 0

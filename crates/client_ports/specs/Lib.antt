@@ -7,7 +7,7 @@ pub use Rattle.entity_recs.specs.Kinds
 pub use Rattle.entity_recs.specs.Bodies
 pub use Rattle.entity_recs.specs.Commands
 pub use Rattle.entity_slots.specs.Ports
-pub use Rattle.entity_slots.specs.Places
+pub use Rattle.entity_slots.specs.FreeSlots
 pub use Rattle.packet_read.specs.Commands as PacketCommands
 pub use Rattle.packet_read.specs.Reading
 pub use Rattle.arena_map.specs.Maps
@@ -24,7 +24,7 @@ pub mod Answers
 pub mod Receiving
 pub mod Finishing
 pub mod Linking
-pub mod Reasons
+pub mod Refusals
 pub mod Laws
 pub mod Newcomers
 pub mod Frames

@@ -10,7 +10,7 @@ use Rattle.arena_map.specs.Maps.{MapView}
 use Rattle.world_tree.specs.Live.{record_at}
 use Rattle.packet_read.specs.declared.arrival.Arrival.{Arrival}
 use Rattle.client_ports.specs.declared.client.Client.{Client}
-use Rattle.client_ports.specs.declared.spawns.Place.{Place}
+use Rattle.client_ports.specs.declared.spawns.JoinPoint.{JoinPoint}
 use Rattle.client_ports.specs.Clients.{client_at}
 use Rattle.client_ports.specs.States.{State, IsServerState}
 use Rattle.client_ports.specs.Answers.{join_answer}
@@ -40,7 +40,7 @@ pub record IsNewClient (port : ℕ) (c : Client) : Type 0 where
   pub moves : c.moves ≡ 0
 
 -- a slot that was free has such a client and such a record, and nothing else changed
-pub record HasNewcomer (before after : State) (port : ℕ) (to : Place) : Type 0 where
+pub record HasNewcomer (before after : State) (port : ℕ) (to : JoinPoint) : Type 0 where
   pub in_range : to.slot < 64
   pub client_free : client_at before.clients to.slot ≡ None
   pub record_free : record_at before.records to.slot ≡ None
@@ -55,6 +55,6 @@ pub record HasNewcomer (before after : State) (port : ℕ) (to : Place) : Type 0
 
 -- a join that gets a place adds a newcomer there
 abbrev pub JoinsAddNewcomers : Type 0
-JoinsAddNewcomers = (map : MapView) (frame : ℕ) (r : Receiving) (place : ℕ) (a : Arrival) (to : Place)
+JoinsAddNewcomers = (map : MapView) (frame : ℕ) (r : Receiving) (place : ℕ) (a : Arrival) (to : JoinPoint)
     → IsServerState map r.state → reading a.bytes ≡ Ok Join → join_answer map r.state a.port ≡ Ok to
     → HasNewcomer r.state (after_arrival map frame r place a).state a.port to

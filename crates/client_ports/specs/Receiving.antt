@@ -3,7 +3,7 @@ use Rattle.std.specs.Prelude.{ℕ, ◌+◌, List, [], ◌∷◌, map as map_list
 use Rattle.entity_recs.specs.Commands.{Command}
 use Rattle.packet_read.specs.declared.move_packet.MovePacket.{MovePacket}
 use Rattle.packet_read.specs.declared.packet.Packet.{Packet}
-use Rattle.packet_read.specs.declared.packet.Packet.TheVariants.{Join, Step, Leave, Steps}
+use Rattle.packet_read.specs.declared.packet.Packet.TheVariants.{Join, Move, Leave, Moves}
 use Rattle.packet_read.specs.declared.packet_fault.PacketFault.{PacketFault}
 use Rattle.packet_read.specs.Commands.{commands_of}
 use Rattle.packet_read.specs.Reading.{reading}
@@ -12,11 +12,11 @@ use Rattle.packet_read.specs.declared.arrival.Arrival.{Arrival}
 use Rattle.client_ports.specs.declared.client.LiveSlot.{LiveSlot}
 use Rattle.client_ports.specs.declared.refusal.Refusal.{Refusal}
 use Rattle.client_ports.specs.declared.refusal.Refusal.TheVariants as refusal
-use Rattle.client_ports.specs.declared.spawns.Place.{Place}
+use Rattle.client_ports.specs.declared.spawns.JoinPoint.{JoinPoint}
 use Rattle.client_ports.specs.States.{State, with_newcomer, with_update}
 use Rattle.client_ports.specs.Lists.{Lists, no_lists, with_moves, with_join, with_refusal}
 use Rattle.client_ports.specs.NewMoves.{new_among}
-use Rattle.client_ports.specs.Answers.{join_answer, leave_answer, moved, move_answer}
+use Rattle.client_ports.specs.Answers.{join_answer, leave_answer, with_new_moves, move_answer}
 
 -- what the packets have come to so far: the state, and the lists
 pub record Receiving : Type 0 where
@@ -32,7 +32,7 @@ abbrev pub after_refusal : Receiving → ℕ → Refusal → Receiving
 after_refusal r place why = receiving_of r.state (with_refusal r.lists place why)
 
 -- after a join
-abbrev pub after_join : Result Place Refusal → Receiving → ℕ → ℕ → Receiving
+abbrev pub after_join : Result JoinPoint Refusal → Receiving → ℕ → ℕ → Receiving
 after_join (Err why) r place port = after_refusal r place why
 after_join (Ok to) r place port =
     receiving_of (with_newcomer r.state port to.slot to.at) (with_join r.lists port to.slot)
@@ -60,7 +60,7 @@ abbrev pub after_move : Result LiveSlot Refusal → ℕ → List MovePacket → 
 after_move (Err why) frame steps r place = after_refusal r place why
 after_move (Ok live) frame steps r place =
     let new = new_among live.client.last steps in
-    receiving_of (with_update r.state (moved live new))
+    receiving_of (with_update r.state (with_new_moves live new))
     (with_moves r.lists (map_list (command_in frame live.slot) new))
 
 -- after a move packet of a port with these commands
@@ -72,8 +72,8 @@ abbrev pub after_packet : MapView → ℕ → Result Packet PacketFault → Rece
 after_packet map frame (Err why) r place port = after_refusal r place (refusal.Packet why)
 after_packet map frame (Ok Join) r place port = after_join (join_answer map r.state port) r place port
 after_packet map frame (Ok Leave) r place port = after_leave (leave_answer r.state.clients port) r place
-after_packet map frame (Ok (Step m)) r place port = after_commands frame (commands_of (Step m)) r place port
-after_packet map frame (Ok (Steps s)) r place port = after_commands frame (commands_of (Steps s)) r place port
+after_packet map frame (Ok (Move m)) r place port = after_commands frame (commands_of (Move m)) r place port
+after_packet map frame (Ok (Moves s)) r place port = after_commands frame (commands_of (Moves s)) r place port
 
 -- after an arrival at this place of the frame
 abbrev pub after_arrival : MapView → ℕ → Receiving → ℕ → Arrival → Receiving

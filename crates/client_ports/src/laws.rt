@@ -5,7 +5,7 @@ ghost use Rattle.client_ports.specs.Laws.{
   JoinsAreAtTheFirstRoom,
   AcceptedNumbersRise,
   EachPacketHasOneAnswer,
-  RefusalsHaveReasons,
+  RefusalsAreKnown,
   FinishTakesLeaversOut,
   FinishKeepsWhoStays,
 };
@@ -70,9 +70,9 @@ pub fn each_packet_has_one_answer()
     ensures { EachPacketHasOneAnswer }
 {}
 
-/// A packet is refused, for a certain refusal, exactly where the reason of this refusal holds and none before it.
-pub fn refusals_have_reasons()
-    ensures { RefusalsHaveReasons }
+/// A packet is refused, for a certain refusal, exactly where this refusal holds and none before it.
+pub fn refusals_are_known()
+    ensures { RefusalsAreKnown }
 {}
 
 /// The end of a frame takes out the clients that leave, with their players, and no other.
@@ -92,7 +92,7 @@ pub fn packets_are_taken_in_turn()
     ensures { PacketsAreTakenInTurn }
 {}
 
-/// A frame's refusals are exactly those of the packets at their places, each for the reason that holds for its packet
+/// A frame's refusals are exactly those of the packets at their places, each the one that holds for its packet
 /// after the packets before it. Their places rise, so that each is listed once and in the order of arrival.
 pub fn refusals_have_their_places()
     ensures { RefusalsHaveTheirPlaces }

@@ -1,10 +1,10 @@
 ghost use Rattle.std.specs.Prelude.{◌≡◌, ◌<◌, ◌≤◌, IfOk, IfSome, IsSome, None, length, slice_set};
 ghost use Rattle.client_ports.specs.Clients as clients;
 ghost use Rattle.client_ports.specs.Clients.{no_clients, client_at, ports_of, live_slot, new_client, with_client};
-ghost use Rattle.client_ports.specs.Clients.{AreClients, IsUpdate, IsPlaceFor};
+ghost use Rattle.client_ports.specs.Clients.{AreClients, IsUpdate, IsSlotFor};
 ghost use Rattle.client_ports.specs.NewMoves.{new_among};
 ghost use Rattle.client_ports.specs.Answers as answers;
-ghost use Rattle.entity_slots.specs.Places as places;
+ghost use Rattle.entity_slots.specs.FreeSlots as places;
 
 use crate::client::{Client, LiveSlot};
 use crate::refusal::Refusal;
@@ -129,17 +129,17 @@ impl Ports {
     }
 
     /// The least free slot, in which a join of this port goes, or why it gets none.
-    pub(crate) fn place_for(&self, port: u16) -> Result<u8, JoinFault>
-        ensures value { result ≡ places.place_for (ports_of self.now) port }
-        ensures place { IfOk result (IsPlaceFor self.now port) }
+    pub(crate) fn slot_for(&self, port: u16) -> Result<u8, JoinFault>
+        ensures value { result ≡ places.slot_for (ports_of self.now) port }
+        ensures place { IfOk result (IsSlotFor self.now port) }
         ensures count { length self.now ≡ 64 }
     {
-        self.slots.place_for(port)
+        self.slots.slot_for(port)
     }
 
     /// Joins a port in a free slot.
     pub(crate) fn join(&mut self, slot: u8, port: u16)
-        requires { IsPlaceFor self.old port slot }
+        requires { IsSlotFor self.old port slot }
         ensures { self.new ≡ with_client self.old (live_slot slot (new_client port)) }
     {
         self.slots.seat(slot, port);
@@ -172,7 +172,7 @@ impl Ports {
     /// The client of this port, where the new ones of these commands may be accepted, or why the packet is refused.
     pub(crate) fn move_answer(&self, port: u16, steps: &[MovePacket]) -> Result<LiveSlot, Refusal>
         ensures value { result ≡ answers.move_answer self.now port steps.now }
-        ensures live { IfOk result (λ l. IsUpdate self.now (answers.moved l (new_among l.client.last steps.now))) }
+        ensures live { IfOk result (λ l. IsUpdate self.now (answers.with_new_moves l (new_among l.client.last steps.now))) }
     {
         move_by(self.live_with(port), steps)
     }

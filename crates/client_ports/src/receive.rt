@@ -1,6 +1,6 @@
 ghost use Rattle.std.specs.Prelude.{◌≡◌, ◌+◌, ◌<◌, ◌≤◌, List, [], Option, length, map, All, IfOk};
-ghost use Rattle.packet_read.specs.declared.packet.Packet.TheVariants.{Steps};
-ghost use Rattle.packet_read.specs.Spelling.{IsAllowedSteps, StepsFit};
+ghost use Rattle.packet_read.specs.declared.packet.Packet.TheVariants.{Moves};
+ghost use Rattle.packet_read.specs.Spelling.{IsAllowedMoves, MovesFit};
 ghost use Rattle.packet_read.specs.Commands.{commands_of};
 ghost use Rattle.entity_recs.specs.declared.rec.Rec.{Rec};
 ghost use Rattle.arena_map.specs.Maps.{IsSpawn};
@@ -12,7 +12,7 @@ ghost use Rattle.client_ports.specs.States.{state_of, HaveSameLive, IsState};
 ghost use Rattle.client_ports.specs.Lists.{no_lists, with_moves, received_view, HasRoom, IsRoomFor};
 ghost use Rattle.client_ports.specs.NewMoves.{new_among, TakesItsTime};
 ghost use Rattle.client_ports.specs.Answers as answers;
-ghost use Rattle.client_ports.specs.Clients.{IsPlaceFor};
+ghost use Rattle.client_ports.specs.Clients.{IsSlotFor};
 ghost use Rattle.client_ports.specs.Linking.{IsWorldAfter, players_of};
 ghost use Rattle.client_ports.specs.Receiving as receiving;
 ghost use Rattle.client_ports.specs.Receiving.{receiving_of};
@@ -21,12 +21,12 @@ use crate::client::{Client, LiveSlot};
 use crate::ports::{Ports, new_count, refusal_of};
 use crate::received::Received;
 use crate::refusal::Refusal;
-use crate::spawns::{Place, free_spawn};
+use crate::spawns::{JoinPoint, free_spawn};
 use arena_geo::Vec3;
 use arena_map::ArenaMap;
 use arrayvec::ArrayVec;
 use entity_recs::{Cmd, Kind, PLAYER_MAXS, PLAYER_MINS, Rec};
-use packet_read::{Arrival, MOST_BLOCKS, MovePacket, Packet, StepsPacket, read_packet};
+use packet_read::{Arrival, MOST_BLOCKS, MovePacket, Packet, MovesPacket, read_packet};
 use world_tree::World;
 
 /// A player that has just joined.
@@ -68,23 +68,23 @@ fn command(frame: u32, slot: u8, step: &MovePacket) -> Cmd
 }
 
 /// The commands of a packet of version 2 as moves with their numbers, the oldest first.
-fn numbered(packet: &StepsPacket) -> ArrayVec<MovePacket, MOST_BLOCKS>
-    requires allowed { IsAllowedSteps packet.now }
-    requires fits { StepsFit packet.now }
-    ensures { result.items ≡ commands_of (Steps packet.now) }
+fn moves_of_packet(packet: &MovesPacket) -> ArrayVec<MovePacket, MOST_BLOCKS>
+    requires allowed { IsAllowedMoves packet.now }
+    requires fits { MovesFit packet.now }
+    ensures { result.items ≡ commands_of (Moves packet.now) }
 {
     let first = packet.first_seq();
     let mut steps = ArrayVec::new();
     for block in packet.cmds.as_slice() {
-        steps.push(block.numbered(first + steps.len() as u32));
+        steps.push(block.move_with_number(first + steps.len() as u32));
     }
     steps
 }
 
 /// The client after its new ones of these commands.
-fn moved(live: LiveSlot, steps: &[MovePacket]) -> LiveSlot
+fn with_new_moves(live: LiveSlot, steps: &[MovePacket]) -> LiveSlot
     requires { live.client.moves + length (new_among live.client.last steps.now) ≤ 8 }
-    ensures { result ≡ answers.moved live (new_among live.client.last steps.now) }
+    ensures { result ≡ answers.with_new_moves live (new_among live.client.last steps.now) }
 {
     let LiveSlot { slot, client } = live;
     let moves = client.moves + new_count(client.last, steps) as u8;
@@ -121,15 +121,15 @@ fn accept_new(frame: u32, live: LiveSlot, steps: &[MovePacket], out: &mut Receiv
 
 impl Ports {
     /// Where a join of this port goes, or why it is refused.
-    fn join_answer(&self, map: &ArenaMap, world: &World, port: u16) -> Result<Place, Refusal>
+    fn join_answer(&self, map: &ArenaMap, world: &World, port: u16) -> Result<JoinPoint, Refusal>
         ensures value { result ≡ answers.join_answer map.now (state_of self.now world.now.records) port }
-        ensures place { IfOk result (λ to. IsPlaceFor self.now port to.slot) }
+        ensures place { IfOk result (λ to. IsSlotFor self.now port to.slot) }
         ensures spawn { IfOk result (λ to. IsSpawn map.now.bounds to.at) }
         ensures count { length self.now ≡ 64 }
     {
-        let slot = self.place_for(port).map_err(refusal_of)?;
+        let slot = self.slot_for(port).map_err(refusal_of)?;
         match free_spawn(map, world, slot) {
-            Some(at) => Ok(Place { slot, at }),
+            Some(at) => Ok(JoinPoint { slot, at }),
             None => Err(Refusal::Crowded),
         }
     }
@@ -154,7 +154,7 @@ impl Ports {
         ensures state { IsState map.now (state_of self.new world.new.records) }
     {
         match self.join_answer(map, world, port) {
-            Ok(Place { slot, at }) => {
+            Ok(JoinPoint { slot, at }) => {
                 self.join(slot, port);
                 world.add(newcomer(slot, at));
                 out.join(port, slot);
@@ -202,7 +202,7 @@ impl Ports {
     {
         match self.move_answer(port, steps) {
             Ok(live) => {
-                self.update(moved(live, steps));
+                self.update(with_new_moves(live, steps));
                 accept_new(frame, live, steps, out);
             }
             Err(why) => out.refuse(place, why),
@@ -233,9 +233,9 @@ impl Ports {
     {
         match read_packet(arrival.bytes.as_slice()) {
             Ok(Packet::Join) => self.receive_join(map, world, place, arrival.port, out),
-            Ok(Packet::Step(m)) => self.receive_moves(frame, place, arrival.port, &[m], out),
-            Ok(Packet::Steps(s)) => {
-                let steps = numbered(&s);
+            Ok(Packet::Move(m)) => self.receive_moves(frame, place, arrival.port, &[m], out),
+            Ok(Packet::Moves(s)) => {
+                let steps = moves_of_packet(&s);
                 self.receive_moves(frame, place, arrival.port, steps.as_slice(), out);
             }
             Ok(Packet::Leave) => self.receive_leave(place, arrival.port, out),

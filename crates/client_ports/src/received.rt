@@ -16,7 +16,7 @@ pub const MOST_FRAME_MOVES: usize = MOST_MOVES as usize * SLOTS;
 pub struct Refused {
     /// Its place in the frame, from 0.
     pub place: u32,
-    /// The first reason that holds.
+    /// The first refusal that holds.
     pub why: Refusal,
 }
 

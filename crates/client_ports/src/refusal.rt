@@ -1,7 +1,7 @@
 use packet_read::PacketFault;
 use thiserror::Error;
 
-/// Why a packet is refused: the first reason that holds, in this order for each kind of packet.
+/// Why a packet is refused: the first that holds, in this order for each kind of packet.
 #[derive(Clone, Copy, Debug, PartialEq, Eq, Error)]
 pub enum Refusal {
     /// The bytes are no packet.

@@ -9,7 +9,7 @@ use world_tree::World;
 
 /// Where a join goes.
 #[derive(Clone, Copy, Debug, PartialEq, Eq)]
-pub struct Place {
+pub struct JoinPoint {
     /// The slot, 0 to 63.
     pub slot: u8,
     /// The origin of the player.

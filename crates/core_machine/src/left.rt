@@ -14,7 +14,7 @@ use core_steps::{FIRST_NODE_WORD, Step, StepKind};
 use entity_recs::Action;
 
 /// The list word with the player's bit set.
-pub fn linked(found: u64, slot: u8) -> u64
+pub fn list_with(found: u64, slot: u8) -> u64
     requires { slot < 64 }
     ensures { result ≡ with_bit found slot }
 {
@@ -22,7 +22,7 @@ pub fn linked(found: u64, slot: u8) -> u64
 }
 
 /// The list word with the player's bit cleared.
-pub fn unlinked(found: u64, slot: u8) -> u64
+pub fn list_without(found: u64, slot: u8) -> u64
     requires { slot < 64 }
     ensures { result ≡ without_bit found slot }
 {
@@ -35,9 +35,9 @@ fn word_stored(slot: u8, store: Store, found: u64) -> u64
     ensures { result ≡ going.word_stored slot (store_of store) found }
 {
     match store {
-        Store::Clear(_) => unlinked(found, slot),
+        Store::Clear(_) => list_without(found, slot),
         Store::Put(_, word) => word,
-        Store::Link(_) => linked(found, slot),
+        Store::Link(_) => list_with(found, slot),
     }
 }
 

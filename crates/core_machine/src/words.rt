@@ -5,7 +5,7 @@ ghost use Rattle.core_steps.specs.Steps.{words_after_store};
 ghost use Rattle.core_seats.specs.Points.{cell_in, store_of};
 ghost use Rattle.core_machine.specs.Tables.{words_in, IsCellOf, IsStoreOf};
 
-use crate::left::{linked, unlinked};
+use crate::left::{list_with, list_without};
 use core_seats::{Cell, Store};
 use core_steps::{PlayerWords, TABLE_NODES, TABLE_STATES};
 use entity_recs::SLOTS;
@@ -73,7 +73,7 @@ impl Words {
         } }
     {
         let word = self.links[usize::from(node)];
-        self.links[usize::from(node)] = linked(word, slot);
+        self.links[usize::from(node)] = list_with(word, slot);
     }
 
     /// Clears the player's bit in the list word of a node.
@@ -86,7 +86,7 @@ impl Words {
         } }
     {
         let word = self.links[usize::from(node)];
-        self.links[usize::from(node)] = unlinked(word, slot);
+        self.links[usize::from(node)] = list_without(word, slot);
     }
 
     /// Makes a store that the player in this slot owes.

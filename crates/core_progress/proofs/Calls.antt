@@ -21,7 +21,7 @@ use Rattle.core_steps.proofs.OneView.{steps_change_one_view}
 use Rattle.core_steps.proofs.Reached.{stands_called}
 use Rattle.core_steps.proofs.SameSeats.{SeatPart, same_seats}
 use Rattle.core_seats.specs.StepsLeft.{is_served}
-use Rattle.core_progress.specs.Progress.{serves_next, served_by, served, commands_given, view_steps, given_steps, steps_of_command, seat_steps, steps_of_all}
+use Rattle.core_progress.specs.Progress.{serves_next, served_by, served_steps, commands_given, view_steps, given_steps, steps_of_command, seat_steps, steps_of_all}
 use Rattle.core_progress.specs.Laws.{ServedStepsAreBounded}
 use Rattle.core_progress.proofs.Lowering.{lowers, keeps}
 use Rattle.core_progress.proofs.Sums.{sum_lower, sum_higher}
@@ -106,7 +106,7 @@ given_more (Go i) calls k = omega arith
 given_more (GiveUp i) calls k = omega arith
 
 pub calls_left : (F : Fixed) (m : Machine) (calls : List Call) → IsLawful F → IsStart F → IsTreeDepth F.tree.depth → StandsSomehow F m → MayAllBeCalled F m calls
-    → served F m calls + steps_of_all F (after_calls F m calls) ≤ steps_of_all F m + commands_given calls * steps_of_command F
+    → served_steps F m calls + steps_of_all F (after_calls F m calls) ≤ steps_of_all F m + commands_given calls * steps_of_command F
 calls_left F m [] lawful start depth is may = omega arith
 calls_left F m (call ∷ calls) lawful start depth is may =
     let one = call_left F m is.history is.now call lawful start depth is.stands may.0 in

@@ -18,7 +18,7 @@ use Rattle.core_steps.proofs.Puts.{put_other}
 use Rattle.core_steps.proofs.OneView.{steps_change_one_view}
 use Rattle.core_steps.proofs.Reached.{stands_called}
 use Rattle.core_seats.specs.StepsLeft.{is_served, left_at}
-use Rattle.core_progress.specs.Progress.{serves_next, can_step, served_by, served, commands_given, effect_or_longest, given_steps, steps_of_command, seat_steps, steps_of_all, lets_go, IsRound, AreRounds, after_rounds, commands_in, any_in_hand, busy_rounds}
+use Rattle.core_progress.specs.Progress.{serves_next, can_step, served_by, served_steps, commands_given, effect_or_longest, given_steps, steps_of_command, seat_steps, steps_of_all, lets_go, IsRound, AreRounds, after_rounds, commands_in, any_in_hand, busy_rounds}
 use Rattle.core_progress.specs.Laws.{BusyRoundsAreFew, RoundsEndAllCommands}
 use Rattle.core_progress.proofs.Serving.{some_seat_can_step}
 use Rattle.core_progress.proofs.Calls.{call_left, calls_left, command_steps}
@@ -195,7 +195,7 @@ goes_later F m i (GiveUp j) calls can none goes = goes
 
 -- calls that let a seat go on that can step serve a step
 round_serves : (F : Fixed) (m : Machine) (i : ℕ) (calls : List Call) → IsLawful F → IsStart F → StandsSomehow F m → MayAllBeCalled F m calls
-    → can_step F m i ≡ true → lets_go i calls ≡ true → 1 ≤ served F m calls
+    → can_step F m i ≡ true → lets_go i calls ≡ true → 1 ≤ served_steps F m calls
 round_serves F m i [] lawful start is may can goes = absurd (false≢true goes)
 round_serves F m i (call ∷ calls) lawful start is may can goes =
     elim (zero_or_more (served_by F m call)) [
@@ -212,7 +212,7 @@ stands_after F m [] lawful start may is = is
 stands_after F m (call ∷ calls) lawful start may is = stands_after F (after_call F m call) calls lawful start may.1 (stands_called F m call lawful start may.0 is)
 
 -- a round that begins with a command in hand serves a step
-busy_round : (F : Fixed) (m : Machine) (round : List Call) → IsLawful F → IsStart F → StandsSomehow F m → IsRound F m round → HasSome m → 1 ≤ served F m round
+busy_round : (F : Fixed) (m : Machine) (round : List Call) → IsLawful F → IsStart F → StandsSomehow F m → IsRound F m round → HasSome m → 1 ≤ served_steps F m round
 busy_round F m round lawful start is here some =
     let free = some_seat_can_step F m is.history is.now some.seat is.stands some.has in
     round_serves F m free.seat round lawful start is here.may free.steps (here.each free.seat free.steps)

@@ -7,7 +7,7 @@ use Rattle.core_steps.specs.Views.{Fixed}
 use Rattle.core_steps.specs.Stands.{IsLawful, IsStart}
 use Rattle.core_steps.specs.Machine.{Machine, MachineStands}
 use Rattle.core_steps.specs.Calls.{Call, start_machine, after_calls, MayAllBeCalled, has_command, kept_by}
-use Rattle.core_progress.specs.Progress.{served, commands_given, steps_of_all, StepsOrWaits, SomeSeatSteps, IsRound}
+use Rattle.core_progress.specs.Progress.{served_steps, commands_given, steps_of_all, StepsOrWaits, SomeSeatSteps, IsRound}
 use Rattle.core_progress.specs.Progress.{AreRounds, after_rounds, turns, after_turns, commands_in, any_in_hand}
 use Rattle.core_progress.specs.Progress.{busy_rounds, IsFair, EndsSometime}
 
@@ -17,7 +17,7 @@ abbrev pub ServedStepsAreBounded : Type 0
 ServedStepsAreBounded =
     (F : Fixed) (m : Machine) (history : List Item) (now : World) (calls : List Call) → IsLawful F → IsStart F
     → IsTreeDepth F.tree.depth → MachineStands F m history now → MayAllBeCalled F m calls
-    → served F m calls + steps_of_all F (after_calls F m calls)
+    → served_steps F m calls + steps_of_all F (after_calls F m calls)
     ≤ steps_of_all F m + commands_given calls * (24471 + 2 * length F.start.ids)
 
 -- whatever calls are made from the start on: of each command that is given at most 24,471 steps, and two for each live
@@ -26,7 +26,7 @@ abbrev pub CommandsTakeFewSteps : Type 0
 CommandsTakeFewSteps =
     (F : Fixed) (room : ℕ) (rooms : List ℕ) (calls : List Call) → IsLawful F → IsStart F → IsTreeDepth F.tree.depth
     → MayAllBeCalled F (start_machine F room rooms) calls
-    → served F (start_machine F room rooms) calls + steps_of_all F (after_calls F (start_machine F room rooms) calls)
+    → served_steps F (start_machine F room rooms) calls + steps_of_all F (after_calls F (start_machine F room rooms) calls)
     ≤ commands_given calls * (24471 + 2 * length F.start.ids)
 
 -- a seat with a command in hand can step, or it waits for a node that another seat holds, and never both

@@ -30,9 +30,9 @@ served_by F m (Go i) = if can_step F m i then 1 else 0
 served_by F m (GiveUp i) = 0
 
 -- how many steps of these calls are served
-abbrev pub served : Fixed → Machine → List Call → ℕ
-served F m [] = 0
-served F m (call ∷ calls) = served_by F m call + served F (after_call F m call) calls
+abbrev pub served_steps : Fixed → Machine → List Call → ℕ
+served_steps F m [] = 0
+served_steps F m (call ∷ calls) = served_by F m call + served_steps F (after_call F m call) calls
 
 -- how many commands these calls give
 abbrev pub commands_given : List Call → ℕ

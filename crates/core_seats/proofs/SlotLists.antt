@@ -15,7 +15,7 @@ use Rattle.entity_recs.specs.Bodies.{abs_of}
 use Rattle.areanode.specs.Words.{has_bit}
 use Rattle.core_steps.specs.Views.{Fixed, has, player_of}
 use Rattle.core_seats.specs.NearRecords.{touching_one}
-use Rattle.core_seats.specs.NearKept.{near_player, touching, kept_at, other_players, players_kept}
+use Rattle.core_seats.specs.NearKept.{near_player, records_touching, kept_at, other_players, players_kept}
 use Rattle.core_seats.proofs.KeptNear.{IsBelowAll, AreRising, are_rising}
 
 -- ---- the lowest bit
@@ -149,17 +149,17 @@ same_given f g s (suc k) same =
     ap (λ (o : Option Rec). cons_option o (filter_map f (range_with_len (s + 1) k))) (same s (omega arith))
     ∙ ap (cons_option (g s)) (same_given f g (s + 1) k (λ n less. same n (omega (arith, less))))
 
-near_option : (region : List Bounds) (o : Option Rec) (rs near : List Rec) → touching region rs ≡ near
-    → touching region (cons_option o rs) ≡ cons_option (touching_one region o) near
+near_option : (region : List Bounds) (o : Option Rec) (rs near : List Rec) → records_touching region rs ≡ near
+    → records_touching region (cons_option o rs) ≡ cons_option (touching_one region o) near
 near_option region None rs near is = is
 near_option region (Some r) rs near is = by_test (touches_region (abs_of r) region)
   where
-    by_test : (b : Bool) → (if b then r ∷ touching region rs else touching region rs) ≡ cons_option (if b then Some r else None) near
+    by_test : (b : Bool) → (if b then r ∷ records_touching region rs else records_touching region rs) ≡ cons_option (if b then Some r else None) near
     by_test true = ap (λ (qs : List Rec). r ∷ qs) is
     by_test false = is
 
 near_one_kept : (region : List Bounds) (f : ℕ → Option Rec) (ns : List ℕ)
-    → touching region (filter_map f ns) ≡ filter_map (λ n. touching_one region (f n)) ns
+    → records_touching region (filter_map f ns) ≡ filter_map (λ n. touching_one region (f n)) ns
 near_one_kept region f [] = refl
 near_one_kept region f (n ∷ ns) = near_option region (f n) (filter_map f ns) (filter_map (λ m. touching_one region (f m)) ns) (near_one_kept region f ns)
 

@@ -14,7 +14,7 @@ use Rattle.entity_recs.specs.declared.effect.NewState.{NewState}
 use Rattle.entity_recs.specs.Bodies.{abs_of}
 use Rattle.entity_recs.specs.Records.{with_state}
 use Rattle.core_steps.specs.Views.{Fixed, has, state_at, thing_of, things_in}
-use Rattle.core_seats.specs.NearKept.{AreAtIds, AreThings, thing_with, touching, things_loaded}
+use Rattle.core_seats.specs.NearKept.{AreAtIds, AreThings, thing_with, records_touching, things_loaded}
 use Rattle.entity_recs.specs.Actions.{Meaning, HasValidity}
 use Rattle.entity_recs.proofs.Ids.{id_in}
 use Rattle.core_steps.specs.Stands.{IsLawful, IsStart}
@@ -94,23 +94,23 @@ module _ (f : ℕ → Rec) (region : List Bounds) where
       by_test true rest = ap (λ (ns : List ℕ). if touched id then id ∷ ns else ns) rest
       by_test false rest = rest
 
-  touched_ids : (rs : List Rec) → AreAtIds f rs → filter touched (map (λ (r : Rec). r.id) rs) ≡ map (λ (r : Rec). r.id) (touching region rs)
+  touched_ids : (rs : List Rec) → AreAtIds f rs → filter touched (map (λ (r : Rec). r.id) rs) ≡ map (λ (r : Rec). r.id) (records_touching region rs)
   touched_ids [] found = refl
   touched_ids (r ∷ rs) found =
       ap (λ (q : Rec). if touches_region (abs_of q) region then r.id ∷ filter touched (map (λ (r : Rec). r.id) rs) else filter touched (map (λ (r : Rec). r.id) rs)) found.0
       ∙ by_test (touches_region (abs_of r) region) (touched_ids rs found.1)
     where
-      by_test : (b : Bool) → filter touched (map (λ (r : Rec). r.id) rs) ≡ map (λ (r : Rec). r.id) (touching region rs)
+      by_test : (b : Bool) → filter touched (map (λ (r : Rec). r.id) rs) ≡ map (λ (r : Rec). r.id) (records_touching region rs)
           → (if b then r.id ∷ filter touched (map (λ (r : Rec). r.id) rs) else filter touched (map (λ (r : Rec). r.id) rs))
-          ≡ map (λ (r : Rec). r.id) (if b then r ∷ touching region rs else touching region rs)
+          ≡ map (λ (r : Rec). r.id) (if b then r ∷ records_touching region rs else records_touching region rs)
       by_test true rest = ap (λ (ns : List ℕ). r.id ∷ ns) rest
       by_test false rest = rest
 
-  touching_found : (rs : List Rec) → AreAtIds f rs → AreAtIds f (touching region rs)
+  touching_found : (rs : List Rec) → AreAtIds f rs → AreAtIds f (records_touching region rs)
   touching_found [] found = tt
   touching_found (r ∷ rs) found = by_test (touches_region (abs_of r) region) (touching_found rs found.1)
     where
-      by_test : (b : Bool) → AreAtIds f (touching region rs) → AreAtIds f (if b then r ∷ touching region rs else touching region rs)
+      by_test : (b : Bool) → AreAtIds f (records_touching region rs) → AreAtIds f (if b then r ∷ records_touching region rs else records_touching region rs)
       by_test true rest = (found.0, rest)
       by_test false rest = rest
 
@@ -123,17 +123,17 @@ loaded_at_ids f states (r ∷ rs) found =
 
 module _ (F : Fixed) (things : List Rec) (region : List Bounds) (are : AreThings F things) where
   -- the ids of the things of a region
-  pub things_of_region : things_in F region ≡ map (λ (r : Rec). r.id) (touching region things)
+  pub things_of_region : things_in F region ≡ map (λ (r : Rec). r.id) (records_touching region things)
   things_of_region =
       both_tests F.start.record_of region F.start.ids
       ∙ ap (filter (touched F.start.record_of region)) (sym are.ids)
       ∙ touched_ids F.start.record_of region things are.found
 
   -- the things of a region, with the states that were loaded
-  pub loaded_of_region : (states : List NewState) → things_loaded F region states ≡ filter_map (thing_with states) (touching region things)
+  pub loaded_of_region : (states : List NewState) → things_loaded F region states ≡ filter_map (thing_with states) (records_touching region things)
   loaded_of_region states =
       ap (filter_map (λ id. thing_of (F.start.record_of id) (state_at states id))) things_of_region
-      ∙ loaded_at_ids F.start.record_of states (touching region things) (touching_found F.start.record_of region things are.found)
+      ∙ loaded_at_ids F.start.record_of states (records_touching region things) (touching_found F.start.record_of region things are.found)
 
   pub things_rise : IsStrictlyIncreasing F.start.ids → AreRising (map (λ (r : Rec). r.id) things)
   things_rise rising = subst AreRising (sym are.ids) (rising_kept (nat_le 64) F.start.ids (are_rising F.start.ids rising))
@@ -157,11 +157,11 @@ others_before (r ∷ rs) (suc k) d rising there =
     let less = below_at r.id rs k d rising.0 (omega (arith, there)) in
     ((λ e. omega (arith, e, less)), others_before rs k d rising.1 (omega (arith, there)))
 
-others_touching : (region : List Bounds) (id : ℕ) (rs : List Rec) → AreOthers id rs → AreOthers id (touching region rs)
+others_touching : (region : List Bounds) (id : ℕ) (rs : List Rec) → AreOthers id rs → AreOthers id (records_touching region rs)
 others_touching region id [] others = tt
 others_touching region id (r ∷ rs) others = by_test (touches_region (abs_of r) region) (others_touching region id rs others.1)
   where
-    by_test : (b : Bool) → AreOthers id (touching region rs) → AreOthers id (if b then r ∷ touching region rs else touching region rs)
+    by_test : (b : Bool) → AreOthers id (records_touching region rs) → AreOthers id (if b then r ∷ records_touching region rs else records_touching region rs)
     by_test true rest = (others.0, rest)
     by_test false rest = rest
 
@@ -175,13 +175,13 @@ with_other id state states (r ∷ rs) others =
     ap (λ (o : Option Rec). cons_option o (filter_map (thing_with states) rs)) same
     ∙ ap (λ (qs : List Rec). cons_option (thing_with (record { id = id; state = state } ∷ states) r) qs) (with_other id state states rs others.1)
 
-touching_last : (region : List Bounds) (rs : List Rec) (r : Rec) → touching region (rs ++ r ∷ []) ≡ touching region rs ++ touching region (r ∷ [])
+touching_last : (region : List Bounds) (rs : List Rec) (r : Rec) → records_touching region (rs ++ r ∷ []) ≡ records_touching region rs ++ records_touching region (r ∷ [])
 touching_last region [] r = refl
 touching_last region (x ∷ rs) r = by_test (touches_region (abs_of x) region) (touching_last region rs r)
   where
-    by_test : (b : Bool) → touching region (rs ++ r ∷ []) ≡ touching region rs ++ touching region (r ∷ [])
-        → (if b then x ∷ touching region (rs ++ r ∷ []) else touching region (rs ++ r ∷ []))
-        ≡ (if b then x ∷ touching region rs else touching region rs) ++ touching region (r ∷ [])
+    by_test : (b : Bool) → records_touching region (rs ++ r ∷ []) ≡ records_touching region rs ++ records_touching region (r ∷ [])
+        → (if b then x ∷ records_touching region (rs ++ r ∷ []) else records_touching region (rs ++ r ∷ []))
+        ≡ (if b then x ∷ records_touching region rs else records_touching region rs) ++ records_touching region (r ∷ [])
     by_test true rest = ap (λ (qs : List Rec). x ∷ qs) rest
     by_test false rest = rest
 
@@ -189,26 +189,26 @@ module _ (region : List Bounds) (things : List Rec) (k : ℕ) (d : Rec) (there :
   abbrev thing : Rec
   thing = get_or things k d
 
-  touching_more : touches_region (abs_of thing) region ≡ true → touching region (take (k + 1) things) ≡ touching region (take k things) ++ thing ∷ []
-  touching_more is = ap (touching region) (take_more things k d there) ∙ touching_last region (take k things) thing
-      ∙ ap (λ (qs : List Rec). touching region (take k things) ++ qs) (cond-true (touches_region (abs_of thing) region) (thing ∷ []) [] is)
+  touching_more : touches_region (abs_of thing) region ≡ true → records_touching region (take (k + 1) things) ≡ records_touching region (take k things) ++ thing ∷ []
+  touching_more is = ap (records_touching region) (take_more things k d there) ∙ touching_last region (take k things) thing
+      ∙ ap (λ (qs : List Rec). records_touching region (take k things) ++ qs) (cond-true (touches_region (abs_of thing) region) (thing ∷ []) [] is)
 
   -- the thing doesn't touch the region
-  pub touching_same : touches_region (abs_of thing) region ≡ false → touching region (take (k + 1) things) ≡ touching region (take k things)
-  touching_same not = ap (touching region) (take_more things k d there) ∙ touching_last region (take k things) thing
-      ∙ ap (λ (qs : List Rec). touching region (take k things) ++ qs) (cond-false (touches_region (abs_of thing) region) (thing ∷ []) [] not)
-      ∙ append-nil (touching region (take k things))
+  pub touching_same : touches_region (abs_of thing) region ≡ false → records_touching region (take (k + 1) things) ≡ records_touching region (take k things)
+  touching_same not = ap (records_touching region) (take_more things k d there) ∙ touching_last region (take k things) thing
+      ∙ ap (λ (qs : List Rec). records_touching region (take k things) ++ qs) (cond-false (touches_region (abs_of thing) region) (thing ∷ []) [] not)
+      ∙ append-nil (records_touching region (take k things))
 
   -- the thing touches the region, and its state was loaded
   pub loaded_more : (states : List NewState) (state : ℕ) → AreRising (map (λ (r : Rec). r.id) things) → touches_region (abs_of thing) region ≡ true
-      → filter_map (thing_with (record { id = thing.id; state = state } ∷ states)) (touching region (take (k + 1) things))
-      ≡ filter_map (thing_with states) (touching region (take k things)) ++ with_state thing state ∷ []
+      → filter_map (thing_with (record { id = thing.id; state = state } ∷ states)) (records_touching region (take (k + 1) things))
+      ≡ filter_map (thing_with states) (records_touching region (take k things)) ++ with_state thing state ∷ []
   loaded_more states state rising is =
       let more = record { id = thing.id; state = state } ∷ states in
       ap (filter_map (thing_with more)) (touching_more is)
-      ∙ filter_map-append (thing_with more) (touching region (take k things)) (thing ∷ [])
-      ∙ ap (λ (qs : List Rec). qs ++ filter_map (thing_with more) (thing ∷ [])) (sym (with_other thing.id state states (touching region (take k things)) (others_touching region thing.id (take k things) (others_before things k d rising there))))
-      ∙ ap (λ (o : Option ℕ). filter_map (thing_with states) (touching region (take k things)) ++ cons_option (thing_of thing o) [])
+      ∙ filter_map-append (thing_with more) (records_touching region (take k things)) (thing ∷ [])
+      ∙ ap (λ (qs : List Rec). qs ++ filter_map (thing_with more) (thing ∷ [])) (sym (with_other thing.id state states (records_touching region (take k things)) (others_touching region thing.id (take k things) (others_before things k d rising there))))
+      ∙ ap (λ (o : Option ℕ). filter_map (thing_with states) (records_touching region (take k things)) ++ cons_option (thing_of thing o) [])
       (cond-true (thing.id == thing.id) (Some state) (state_at states thing.id) (eq-eqb thing.id thing.id refl))
 
   drop_first : drop k things ≡ thing ∷ drop (k + 1) things
@@ -216,14 +216,14 @@ module _ (region : List Bounds) (things : List Rec) (k : ℕ) (d : Rec) (there :
 
   -- what is left of the things of the region
   pub left_first : touches_region (abs_of thing) region ≡ true
-      → map (λ (r : Rec). r.id) (touching region (drop k things)) ≡ thing.id ∷ map (λ (r : Rec). r.id) (touching region (drop (k + 1) things))
-  left_first is = ap (λ (rs : List Rec). map (λ (r : Rec). r.id) (touching region rs)) drop_first
-      ∙ ap (λ (rs : List Rec). map (λ (r : Rec). r.id) rs) (cond-true (touches_region (abs_of thing) region) (thing ∷ touching region (drop (k + 1) things)) (touching region (drop (k + 1) things)) is)
+      → map (λ (r : Rec). r.id) (records_touching region (drop k things)) ≡ thing.id ∷ map (λ (r : Rec). r.id) (records_touching region (drop (k + 1) things))
+  left_first is = ap (λ (rs : List Rec). map (λ (r : Rec). r.id) (records_touching region rs)) drop_first
+      ∙ ap (λ (rs : List Rec). map (λ (r : Rec). r.id) rs) (cond-true (touches_region (abs_of thing) region) (thing ∷ records_touching region (drop (k + 1) things)) (records_touching region (drop (k + 1) things)) is)
 
   pub left_same : touches_region (abs_of thing) region ≡ false
-      → map (λ (r : Rec). r.id) (touching region (drop k things)) ≡ map (λ (r : Rec). r.id) (touching region (drop (k + 1) things))
-  left_same not = ap (λ (rs : List Rec). map (λ (r : Rec). r.id) (touching region rs)) drop_first
-      ∙ ap (λ (rs : List Rec). map (λ (r : Rec). r.id) rs) (cond-false (touches_region (abs_of thing) region) (thing ∷ touching region (drop (k + 1) things)) (touching region (drop (k + 1) things)) not)
+      → map (λ (r : Rec). r.id) (records_touching region (drop k things)) ≡ map (λ (r : Rec). r.id) (records_touching region (drop (k + 1) things))
+  left_same not = ap (λ (rs : List Rec). map (λ (r : Rec). r.id) (records_touching region rs)) drop_first
+      ∙ ap (λ (rs : List Rec). map (λ (r : Rec). r.id) rs) (cond-false (touches_region (abs_of thing) region) (thing ∷ records_touching region (drop (k + 1) things)) (records_touching region (drop (k + 1) things)) not)
 
 -- ---- the records of things at the start
 
@@ -288,15 +288,15 @@ whole_rest n rs = let long = length-drop n rs in take_all (length rs - n) (drop 
 
 -- a thing that touches the region is one of its things
 pub touching_has : (region : List Bounds) (rs : List Rec) (k : ℕ) (d : Rec) → k < length rs → touches_region (abs_of (get_or rs k d)) region ≡ true
-    → has (map (λ (r : Rec). r.id) (touching region rs)) (get_or rs k d).id ≡ true
+    → has (map (λ (r : Rec). r.id) (records_touching region rs)) (get_or rs k d).id ≡ true
 touching_has region [] k d there touch = absurd (omega (arith, there))
 touching_has region (r ∷ rs) zero d there touch =
-    ap (λ (b : Bool). has (map (λ (q : Rec). q.id) (if b then r ∷ touching region rs else touching region rs)) r.id) touch
-    ∙ ap (λ (b : Bool). b || has (map (λ (q : Rec). q.id) (touching region rs)) r.id) (eq-eqb r.id r.id refl)
+    ap (λ (b : Bool). has (map (λ (q : Rec). q.id) (if b then r ∷ records_touching region rs else records_touching region rs)) r.id) touch
+    ∙ ap (λ (b : Bool). b || has (map (λ (q : Rec). q.id) (records_touching region rs)) r.id) (eq-eqb r.id r.id refl)
 touching_has region (r ∷ rs) (suc k) d there touch = by_test (touches_region (abs_of r) region) (touching_has region rs k d (omega (arith, there)) touch)
   where
-    by_test : (b : Bool) → has (map (λ (q : Rec). q.id) (touching region rs)) (get_or rs k d).id ≡ true
-        → has (map (λ (q : Rec). q.id) (if b then r ∷ touching region rs else touching region rs)) (get_or rs k d).id ≡ true
+    by_test : (b : Bool) → has (map (λ (q : Rec). q.id) (records_touching region rs)) (get_or rs k d).id ≡ true
+        → has (map (λ (q : Rec). q.id) (if b then r ∷ records_touching region rs else records_touching region rs)) (get_or rs k d).id ≡ true
     by_test true rest = ap (λ (b : Bool). (r.id == (get_or rs k d).id) || b) rest ∙ or-true (r.id == (get_or rs k d).id)
     by_test false rest = rest
 

@@ -51,5 +51,5 @@ abbrev pub thing_with : List NewState → Rec → Option Rec
 thing_with states r = thing_of r (state_at states r.id)
 
 -- those of the records whose absolute box touches a region
-abbrev pub touching : List Bounds → List Rec → List Rec
-touching region = filter (λ r. touches_region (abs_of r) region)
+abbrev pub records_touching : List Bounds → List Rec → List Rec
+records_touching region = filter (λ r. touches_region (abs_of r) region)

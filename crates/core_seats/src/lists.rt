@@ -123,7 +123,7 @@ pub fn players_of(word: u64, own: u8) -> SlotQueue
 }
 
 /// One list of nodes after another.
-pub fn joined(front: NodeQueue, back: &NodeQueue) -> NodeQueue
+pub fn nodes_then(front: NodeQueue, back: &NodeQueue) -> NodeQueue
     requires { length front.items + length back.now.items ≤ MOST_NODES }
     ensures { result.items ≡ front.items ++ back.now.items }
 {

@@ -1,7 +1,7 @@
 ghost use Rattle.std.specs.Prelude.{◌≡◌};
 ghost use Rattle.areanode.specs.Trees.{IsTreeDepth};
 
-use crate::lists::{bits_below, first_leaf, inner_among, joined, leaf_nodes, leaf_word};
+use crate::lists::{bits_below, first_leaf, inner_among, nodes_then, leaf_nodes, leaf_word};
 use crate::near::put_near;
 use crate::near_kept::{count_players, player_bits};
 use crate::point::NodeQueue;
@@ -177,7 +177,7 @@ impl<'a, A: Action> Rules<'a, A> {
         ensures { let depth = self.now.tree.depth in result ≡ visited_of depth leaves % 2 ^ inner_in depth }
     {
         let first = first_leaf(&self.tree);
-        (self.tree.visited(leaves) % (1 << first)) as u32
+        (self.tree.visited_nodes(leaves) % (1 << first)) as u32
     }
 
     /// The nodes of a region's leaves, rising, where these are its leaves, bit i for leaf i.
@@ -194,8 +194,8 @@ impl<'a, A: Action> Rules<'a, A> {
     {
         let leaves = self.tree.leaves_of(region);
         let plan = leaf_nodes(&self.tree, u64::from(leaves));
-        let inner = bits_below(self.tree.visited(leaves), first_leaf(&self.tree));
-        joined(plan, &inner)
+        let inner = bits_below(self.tree.visited_nodes(leaves), first_leaf(&self.tree));
+        nodes_then(plan, &inner)
     }
 
     /// The node of a record.

@@ -8,7 +8,7 @@ use Rattle.std.proofs.lemmas.List.Kept.{IsStrictlyIncreasing-filter}
 use Rattle.entity_recs.specs.declared.rec.Rec.{Rec}
 use Rattle.entity_recs.specs.Records.{with_state}
 use Rattle.entity_recs.specs.Worlds.{others_of}
-use Rattle.entity_recs.specs.Actions.{IsCall, touching}
+use Rattle.entity_recs.specs.Actions.{IsCall, records_touching}
 use Rattle.core_steps.specs.Encoding.{words_of, nth_word}
 use Rattle.core_steps.specs.Cells.{word_in, cell_of}
 use Rattle.core_steps.specs.Views.{Point, stage_of, is_settled, is_read_again, has, region_in, record_read}
@@ -85,7 +85,7 @@ effect_may_be_asked F core history now i lawful start e is =
     let own : (v : ℕ) → has kept v ≡ true → (now.record_of v).id ≡ v =
     λ v there. world.own v (subst (λ (ids : List ℕ). has ids v ≡ true) world.ids (has_filter (λ other. not (other == slot)) now.ids v there).listed) in
     let rising : IsStrictlyIncreasing kept = IsStrictlyIncreasing-filter (λ other. not (other == slot)) now.ids (subst IsStrictlyIncreasing (sym world.ids) start.rising) in
-    let near : IsCall F.takes (now.record_of slot) (touching region (others_of now slot)) view.cmd = record {
+    let near : IsCall F.takes (now.record_of slot) (records_touching region (others_of now slot)) view.cmd = record {
       player = call.player;
       others = All-filter (touches_own region) (λ (r : Rec). F.takes r ≡ true) (others_of now slot) call.others;
       rising = subst IsStrictlyIncreasing (sym (ids_passing (touches_own region) now.record_of kept own))
@@ -93,4 +93,4 @@ effect_may_be_asked F core history now i lawful start e is =
       none_is_me = All-filter (touches_own region) (λ (r : Rec). (r.id == (now.record_of slot).id) ≡ false) (others_of now slot) call.none_is_me;
     } in
     subst (λ (rs : List Rec). IsCall F.takes (record_read slot view.again) rs view.cmd) (sym (near_is F core history now i lawful start is e))
-    (subst (λ (r : Rec). IsCall F.takes r (touching region (others_of now slot)) view.cmd) (sym (again_is F core history now i lawful start is settled read)) near)
+    (subst (λ (r : Rec). IsCall F.takes r (records_touching region (others_of now slot)) view.cmd) (sym (again_is F core history now i lawful start is settled read)) near)

@@ -10,7 +10,7 @@ use Rattle.entity_recs.specs.declared.effect.NewState.{NewState}
 use Rattle.entity_recs.specs.Bodies.{abs_of}
 use Rattle.entity_recs.specs.Worlds.{World, others_of}
 use Rattle.entity_recs.specs.Histories.{Item, outcome, apply}
-use Rattle.entity_recs.specs.Actions.{touching, is_of_one_inside}
+use Rattle.entity_recs.specs.Actions.{records_touching, is_of_one_inside}
 use Rattle.core_steps.specs.Cells.{Cell}
 use Rattle.core_steps.specs.Views.{Fixed, stage_of, is_settled, region_in, stores_owed, state_at}
 use Rattle.core_steps.specs.Steps.{Core}
@@ -154,12 +154,12 @@ module _ (F : Fixed) (core : Core) (history : List Item) (now : World) (i : ℕ)
       let world = now_world F core history now lawful start is in
       let me = same_own j other theirs in
       let ids = filter (λ id. not (id == cmd.slot)) now.ids in
-      let near : touching (F.region_of (now.record_of cmd.slot) cmd) (others_of now cmd.slot) ≡ touching (F.region_of (now.record_of cmd.slot) cmd) (others_of new cmd.slot) =
-      subst (λ (region : List Bounds). touching region (others_of now cmd.slot) ≡ touching region (others_of new cmd.slot)) theirs.region
+      let near : records_touching (F.region_of (now.record_of cmd.slot) cmd) (others_of now cmd.slot) ≡ records_touching (F.region_of (now.record_of cmd.slot) cmd) (others_of new cmd.slot) =
+      subst (λ (region : List Bounds). records_touching region (others_of now cmd.slot) ≡ records_touching region (others_of new cmd.slot)) theirs.region
       (same_passing (touches_own (region_at j)) now.record_of new.record_of ids (λ id touches. sym (same_there j other theirs id touches)) (λ id touches. sym (same_after j other theirs id touches))) in
       let before = lawful.locality.near (now.record_of cmd.slot) (others_of now cmd.slot) cmd (is_call F now cmd start world theirs.given) in
       let after = lawful.locality.near (new.record_of cmd.slot) (others_of new cmd.slot) cmd (is_call F new cmd start new_world theirs.given) in
       before
       ∙ ap (λ (rs : List Rec). F.effect_of (now.record_of cmd.slot) rs cmd) near
-      ∙ ap (λ (r : Rec). F.effect_of r (touching (F.region_of r cmd) (others_of new cmd.slot)) cmd) (sym me)
+      ∙ ap (λ (r : Rec). F.effect_of r (records_touching (F.region_of r cmd) (others_of new cmd.slot)) cmd) (sym me)
       ∙ sym after

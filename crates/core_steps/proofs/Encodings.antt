@@ -6,26 +6,26 @@ use Rattle.std.proofs.lemmas.Int.{ints, to_z-of_z, fits_signed_from_abs}
 use Rattle.arena_geo.specs.declared.vec3.Vec3.{Vec3}
 use Rattle.arena_geo.specs.Vectors.{IsNear, Fits}
 use Rattle.entity_recs.specs.Records.{IsShapeOf, HasCorners}
-use Rattle.core_steps.specs.Encoding.{joined, low_half, high_half, bits_of, signed}
+use Rattle.core_steps.specs.Encoding.{word_of_halves, low_half, high_half, bits_of, signed_of}
 use Rattle.core_steps.specs.Laws.{EncodedIsDecoded}
 
-pub low-joined : (low high : ℕ) → low < 2 ^ 32 → low_half (joined low high) ≡ low
+pub low-joined : (low high : ℕ) → low < 2 ^ 32 → low_half (word_of_halves low high) ≡ low
 low-joined low high below = omega arith
 
-pub high-joined : (low high : ℕ) → low < 2 ^ 32 → high_half (joined low high) ≡ high
+pub high-joined : (low high : ℕ) → low < 2 ^ 32 → high_half (word_of_halves low high) ≡ high
 high-joined low high below = omega arith
 
 bits_fit : (z : ℤ) → FitsSigned w32 z → bits_of z < 2 ^ 32
 bits_fit z fits = omega (arith, ints)
 
-signed-bits : (z : ℤ) → FitsSigned w32 z → signed (bits_of z) ≡ z
+signed-bits : (z : ℤ) → FitsSigned w32 z → signed_of (bits_of z) ≡ z
 signed-bits z fits = to_z-of_z w32 z fits
 
-pub low_signed : (z : ℤ) (high : ℕ) → FitsSigned w32 z → signed (low_half (joined (bits_of z) high)) ≡ z
-low_signed z high fits = ap signed (low-joined (bits_of z) high (bits_fit z fits)) ∙ signed-bits z fits
+pub low_signed : (z : ℤ) (high : ℕ) → FitsSigned w32 z → signed_of (low_half (word_of_halves (bits_of z) high)) ≡ z
+low_signed z high fits = ap signed_of (low-joined (bits_of z) high (bits_fit z fits)) ∙ signed-bits z fits
 
-pub high_signed : (low : ℕ) (z : ℤ) → low < 2 ^ 32 → FitsSigned w32 z → signed (high_half (joined low (bits_of z))) ≡ z
-high_signed low z below fits = ap signed (high-joined low (bits_of z) below) ∙ signed-bits z fits
+pub high_signed : (low : ℕ) (z : ℤ) → low < 2 ^ 32 → FitsSigned w32 z → signed_of (high_half (word_of_halves low (bits_of z))) ≡ z
+high_signed low z below fits = ap signed_of (high-joined low (bits_of z) below) ∙ signed-bits z fits
 
 fits_where_near : (far : ℕ) (v : Vec3) → far < 2 ^ 31 → IsNear far v → Fits v
 fits_where_near far v below near = record {

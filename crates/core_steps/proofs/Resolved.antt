@@ -11,7 +11,7 @@ use Rattle.entity_recs.specs.Records.{with_state}
 use Rattle.entity_recs.specs.Bodies.{abs_of}
 use Rattle.entity_recs.specs.Worlds.{World, others_of}
 use Rattle.entity_recs.specs.Histories.{Item, outcome}
-use Rattle.entity_recs.specs.Actions.{touching}
+use Rattle.entity_recs.specs.Actions.{records_touching}
 use Rattle.areanode.specs.Words.{has_bit}
 use Rattle.areanode.specs.Trees.{leaf_node, visited_of, leaves_of}
 use Rattle.areanode.proofs.Nodes.{node_is_in_range, touched_leaf_is_listed, touched_node_is_visited}
@@ -179,7 +179,7 @@ again_is F core history now i lawful start is settled read =
 -- the records loaded that touch the region are those of the run that touch it
 pub near_is : (F : Fixed) (core : Core) (history : List Item) (now : World) (i : ℕ) → IsLawful F → IsStart F → Stands F core history now → (core.view i).point ≡ Resolving
     → near_loaded F (region_in F (core.view i).cmd (core.view i).own) (core.view i).cmd.slot (core.view i).others (core.view i).states
-    ≡ touching (region_in F (core.view i).cmd (core.view i).own) (others_of now (core.view i).cmd.slot)
+    ≡ records_touching (region_in F (core.view i).cmd (core.view i).own) (others_of now (core.view i).cmd.slot)
 near_is F core history now i lawful start is e =
     let view = core.view i in
     let slot = view.cmd.slot in
@@ -193,7 +193,7 @@ near_is F core history now i lawful start is e =
       | inr high ↦ subst (IsLoadedFor (touches_own region) (now.record_of id)) (sym (cond-false (nat_lt id 64) (player_of id (player_at view.others id)) (thing_of (F.start.record_of id) (state_at view.states id)) high))
           (thing_loaded F core history now i id lawful start is e kept.listed high)
     ])
-    ∙ ap (λ (ids : List ℕ). touching region (map now.record_of (filter (λ id. not (id == slot)) ids))) (sym world.ids)
+    ∙ ap (λ (ids : List ℕ). records_touching region (map now.record_of (filter (λ id. not (id == slot)) ids))) (sym world.ids)
 
 -- what the action gives on what was loaded is the outcome in the run
 pub loaded_is_outcome : (F : Fixed) (core : Core) (history : List Item) (now : World) (i : ℕ) → IsLawful F → IsStart F → Stands F core history now → (core.view i).point ≡ Resolving
@@ -212,5 +212,5 @@ loaded_is_outcome F core history now i lawful start is e =
     let local = lawful.locality.near (now.record_of slot) (others_of now slot) cmd (is_call F now cmd start world mine.given) in
     ap (λ (r : Rec). F.effect_of r (near_loaded F region slot view.others view.states) cmd) me
     ∙ ap (λ rs. F.effect_of (now.record_of slot) rs cmd) near
-    ∙ ap (λ (bs : List Bounds). F.effect_of (now.record_of slot) (touching bs (others_of now slot)) cmd) mine.region
+    ∙ ap (λ (bs : List Bounds). F.effect_of (now.record_of slot) (records_touching bs (others_of now slot)) cmd) mine.region
     ∙ sym local

@@ -6,8 +6,8 @@ use Rattle.entity_recs.specs.declared.rec.Rec.{Rec}
 use Rattle.entity_recs.specs.declared.bodies.TheConstants.{PLAYER_MINS, PLAYER_MAXS}
 
 -- two halves of a word, the low one first
-abbrev pub joined : ℕ → ℕ → ℕ
-joined low high = low + high * 2 ^ 32
+abbrev pub word_of_halves : ℕ → ℕ → ℕ
+word_of_halves low high = low + high * 2 ^ 32
 
 -- the low half of a word
 abbrev pub low_half : ℕ → ℕ
@@ -22,16 +22,16 @@ abbrev pub bits_of : ℤ → ℕ
 bits_of z = cast_unsigned w32 z
 
 -- the signed number of 32 bits
-abbrev pub signed : ℕ → ℤ
-signed bits = cast_signed w32 bits
+abbrev pub signed_of : ℕ → ℤ
+signed_of bits = cast_signed w32 bits
 
 -- a player's five words: x and y; z and vx; vy and vz; score and seq; flags, ammo and carry in a byte each
 abbrev pub words_of : Rec → List ℕ
 words_of r =
-    joined (bits_of r.origin.x) (bits_of r.origin.y)
-    ∷ joined (bits_of r.origin.z) (bits_of r.vel.x)
-    ∷ joined (bits_of r.vel.y) (bits_of r.vel.z)
-    ∷ joined r.score r.seq
+    word_of_halves (bits_of r.origin.x) (bits_of r.origin.y)
+    ∷ word_of_halves (bits_of r.origin.z) (bits_of r.vel.x)
+    ∷ word_of_halves (bits_of r.vel.y) (bits_of r.vel.z)
+    ∷ word_of_halves r.score r.seq
     ∷ (r.flags + r.ammo * 2 ^ 8 + r.carry * 2 ^ 16)
     ∷ []
 
@@ -45,16 +45,16 @@ record_from id words state = record {
   id = id;
   kind = Player;
   origin = record {
-    x = signed (low_half (nth_word words 0));
-    y = signed (high_half (nth_word words 0));
-    z = signed (low_half (nth_word words 1));
+    x = signed_of (low_half (nth_word words 0));
+    y = signed_of (high_half (nth_word words 0));
+    z = signed_of (low_half (nth_word words 1));
   };
   mins = PLAYER_MINS;
   maxs = PLAYER_MAXS;
   vel = record {
-    x = signed (high_half (nth_word words 1));
-    y = signed (low_half (nth_word words 2));
-    z = signed (high_half (nth_word words 2));
+    x = signed_of (high_half (nth_word words 1));
+    y = signed_of (low_half (nth_word words 2));
+    z = signed_of (high_half (nth_word words 2));
   };
   flags = nth_word words 4 % 2 ^ 8;
   ammo = nth_word words 4 / 2 ^ 8 % 2 ^ 8;

@@ -30,8 +30,8 @@ player_at_rest slot x y = record {
 }
 
 -- the example with these records: a player stays where it is and keeps the number of its command
-abbrev pub staying : List Rec → Fixed
-staying records = record {
+abbrev pub staying_example : List Rec → Fixed
+staying_example records = record {
   takes = λ r. true;
   region_of = λ me c. abs_of me ∷ [];
   effect_of = λ me near c. record
@@ -52,7 +52,7 @@ plain slot = record { slot = slot; seq = 1; frame = 0; ms = 50; wish_x = pos 0; 
 
 -- two players so close that they share leaf 0
 abbrev pub near_players : Fixed
-near_players = staying (player_at_rest 0 (pos 98304) (pos 98304) ∷ player_at_rest 1 (pos 85504) (pos 98304) ∷ [])
+near_players = staying_example (player_at_rest 0 (pos 98304) (pos 98304) ∷ player_at_rest 1 (pos 85504) (pos 98304) ∷ [])
 
 -- a seat goes on so many times
 abbrev pub times : ℕ → ℕ → List Call

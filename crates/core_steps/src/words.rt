@@ -1,7 +1,7 @@
 ghost use Rattle.std.specs.Prelude.{◌≡◌, ◌<◌, ◌+◌, ◌*◌, ◌^◌};
 ghost use Rattle.core_steps.specs.Cells.{node_index, links_index, body_index, state_index};
 ghost use Rattle.core_steps.specs.declared.sizes.TheConstants.{TABLE_STATES};
-ghost use Rattle.core_steps.specs.Encoding.{low_half, high_half, joined, words_of, record_from};
+ghost use Rattle.core_steps.specs.Encoding.{low_half, high_half, word_of_halves, words_of, record_from};
 
 use crate::sizes::{FIRST_LIST_WORD, FIRST_NODE_WORD, FIRST_RECORD_WORD, FIRST_STATE_WORD};
 use arena_geo::Vec3;
@@ -42,7 +42,7 @@ pub type PlayerWords = [u64; 5];
 
 /// A word of two halves.
 fn halves(low: u32, high: u32) -> u64
-    ensures { result ≡ joined low high }
+    ensures { result ≡ word_of_halves low high }
 {
     u64::from(low) + (u64::from(high) << 32)
 }

@@ -12,9 +12,9 @@ use trial_outcomes::{ARRIVAL, ITEM};
 /// it is free.
 pub struct Errand;
 
-/// The player at rest at the place of arrival.
-fn arrived(me: &Rec) -> Rec
-    ensures { result ≡ errands.arrived me.now }
+/// The player at rest at the point of arrival.
+fn player_at_arrival(me: &Rec) -> Rec
+    ensures { result ≡ errands.player_at_arrival me.now }
 {
     Rec {
         origin: ARRIVAL,
@@ -24,11 +24,11 @@ fn arrived(me: &Rec) -> Rec
 }
 
 /// The player after its command.
-fn moved(me: &Rec, cmd: &Cmd) -> Rec
-    ensures { result ≡ errands.moved me.now (command_of cmd.now) }
+fn player_after(me: &Rec, cmd: &Cmd) -> Rec
+    ensures { result ≡ errands.player_after me.now (command_of cmd.now) }
 {
     let there = if cmd.buttons % 2 == 1 {
-        arrived(me)
+        player_at_arrival(me)
     } else {
         *me
     };
@@ -79,14 +79,14 @@ impl Action for Errand {
     fn region(&self, me: &Rec, cmd: &Cmd) -> Region {
         let _ = cmd;
         let mut region = Region::one(abs_box(me));
-        region.push(abs_box(&arrived(me)));
+        region.push(abs_box(&player_at_arrival(me)));
         region.push(abs_box(&ITEM));
         region
     }
 
     fn act(&self, me: &Rec, near: &[Rec], cmd: &Cmd) -> Effect {
         let free = has_free_item(near);
-        let me = moved(me, cmd);
+        let me = player_after(me, cmd);
         Effect {
             me,
             states: new_states(free, cmd.frame),

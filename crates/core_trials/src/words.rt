@@ -71,7 +71,7 @@ fn a_seat_counts_refusals_and_forgets_its_command(rt: HostRuntime) -> Result<(),
 }
 
 /// Words with a number in each part of the table.
-fn numbered() -> Words {
+fn numbered_words() -> Words {
     let mut words = zeros();
     words.set(0, 7);
     words.set(4, 5);
@@ -83,7 +83,7 @@ fn numbered() -> Words {
 
 #[test]
 fn words_lie_in_the_order_of_the_table(rt: HostRuntime) {
-    let words = numbered();
+    let words = numbered_words();
     assert_eq!(rt; words.commits, 7);
     assert_eq!(rt; words.node[3], 5);
     assert_eq!(rt; words.links[15], 2);
@@ -93,7 +93,7 @@ fn words_lie_in_the_order_of_the_table(rt: HostRuntime) {
 
 #[test]
 fn words_are_read_where_they_were_set(rt: HostRuntime) {
-    let words = numbered();
+    let words = numbered_words();
     assert_eq!(rt; words.get(0), 7);
     assert_eq!(rt; words.get(141), 9);
     assert_eq!(rt; words.get(142), 0);

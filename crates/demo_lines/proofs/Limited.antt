@@ -48,8 +48,8 @@ fits-limited limit r words.End fits none = refl
 
 -- the tests 4 to 9 in a row, where only the last one may change
 none_still : (form place limit packet many many' : Bool) (rule : Option LineFault) → (many ≡ false → many' ≡ false)
-    → cond form (Some faults.Form) (cond place (Some faults.Place) (cond limit (Some faults.Limit) (option_or rule (cond packet (Some faults.Packet) (cond many (Some faults.Count) None))))) ≡ None
-    → cond form (Some faults.Form) (cond place (Some faults.Place) (cond limit (Some faults.Limit) (option_or rule (cond packet (Some faults.Packet) (cond many' (Some faults.Count) None))))) ≡ None
+    → cond form (Some faults.Form) (cond place (Some faults.NotAllowed) (cond limit (Some faults.Limit) (option_or rule (cond packet (Some faults.Packet) (cond many (Some faults.Count) None))))) ≡ None
+    → cond form (Some faults.Form) (cond place (Some faults.NotAllowed) (cond limit (Some faults.Limit) (option_or rule (cond packet (Some faults.Packet) (cond many' (Some faults.Count) None))))) ≡ None
 none_still true place limit packet many many' rule kept is = cc
 none_still false true limit packet many many' rule kept is = cc
 none_still false false true packet many many' rule kept is = cc
@@ -63,7 +63,7 @@ after_word-limited : (limit : ℕ) (r : Reading) (word : word_types.Word) (rest 
 after_word-limited limit r word rest fits is =
     let still = none_still (not (has_form word rest)) (not (is_allowed r.stage word)) (is_out_of_limit word rest) (has_no_packet word rest) (is_one_too_many r word) (is_one_too_many (limited limit r) word)
     (option_map faults.Rule (broken_by r word rest)) (fits-limited limit r word fits) is in
-    ap (λ (o : _). cond (not (has_form word rest)) (Some faults.Form) (cond (not (is_allowed r.stage word)) (Some faults.Place) (cond (is_out_of_limit word rest) (Some faults.Limit)
+    ap (λ (o : _). cond (not (has_form word rest)) (Some faults.Form) (cond (not (is_allowed r.stage word)) (Some faults.NotAllowed) (cond (is_out_of_limit word rest) (Some faults.Limit)
     (option_or (option_map faults.Rule o) (cond (has_no_packet word rest) (Some faults.Packet) (cond (is_one_too_many (limited limit r) word) (Some faults.Count) None)))))) (broken_by-limited limit r word rest)
     ∙ still
 

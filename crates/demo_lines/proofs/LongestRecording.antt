@@ -17,7 +17,7 @@ use Rattle.arena_map.specs.declared.limits.TheConstants.{DEFAULT_DEPTH, MOST_ITE
 use Rattle.arena_map.specs.declared.map_line.MapLine.{MapLine}
 use Rattle.arena_map.specs.declared.map_line.MapLine.TheVariants.{Item, Teleport, Goal, Lift}
 use Rattle.arena_map.specs.MapLines.{is_item_line, is_teleport_line, is_goal_line, is_lift_line}
-use Rattle.arena_map.specs.Places.{shaft, shaft_of}
+use Rattle.arena_map.specs.Positions.{shaft, shaft_of}
 use Rattle.arena_map.specs.Maps.{MapView, IsSpawn, IsBlock, IsThingInside, IsMap, map_of}
 use Rattle.arena_map.proofs.Counting.{count-cons}
 use Rattle.packet_read.specs.declared.arrival.Arrival.{Arrival}

@@ -19,7 +19,7 @@ use Rattle.demo_lines.specs.Words.{is_nothing, is_allowed, is_first, from_fields
 use Rattle.demo_lines.specs.Lines.{text_of, are_printable, first_word, rest_of, line_in}
 use Rattle.demo_lines.specs.Faults.{is_long, has_spawn, fault_of}
 use Rattle.demo_lines.specs.Recording.{next, after_test, events_of_test, events_of_line, after, events_of}
-use Rattle.demo_lines.specs.Said.{of_map, map_line_said, packet_said, port_said, from_said, first_said, line_said, place_fault, after_said}
+use Rattle.demo_lines.specs.Said.{of_map, map_line_said, packet_said, port_said, from_said, first_said, line_said, stage_fault, after_said}
 use Rattle.demo_lines.specs.Readings.{IsReading, IsOfMap, HasMap}
 use Rattle.demo_lines.specs.Reads.{KeepsMap}
 use Rattle.demo_lines.specs.Laws.{NothingNeedsTheMap, MemoryIsForTheMap}
@@ -35,7 +35,7 @@ of_map-taken stage (Ok line) is = is
 of_map-taken stage (Err why) is = tt
 
 bare-taken : (stage : Stage) (form here : Bool) (line : Line) → (here ≡ true → IsTaken stage line)
-    → IfOk (cond form (cond here (Ok line) (Err faults.Place)) (Err faults.Form)) (IsTaken stage)
+    → IfOk (cond form (cond here (Ok line) (Err faults.NotAllowed)) (Err faults.Form)) (IsTaken stage)
 bare-taken stage false here line is = tt
 bare-taken stage true false line is = tt
 bare-taken stage true true line is = is refl
@@ -48,7 +48,7 @@ port-taken : (stage : Stage) (port : Option ℕ) (packet : List ℕ) → is_allo
 port-taken stage None packet here = tt
 port-taken stage (Some port) packet here = packet-taken stage (packet_bytes packet) port here
 
-allowed-taken : (stage : Stage) (here : Bool) (said : Result Line LineFault) → (here ≡ true → IfOk said (IsTaken stage)) → IfOk (cond here said (Err faults.Place)) (IsTaken stage)
+allowed-taken : (stage : Stage) (here : Bool) (said : Result Line LineFault) → (here ≡ true → IfOk said (IsTaken stage)) → IfOk (cond here said (Err faults.NotAllowed)) (IsTaken stage)
 allowed-taken stage true said is = is refl
 allowed-taken stage false said is = tt
 
@@ -110,7 +110,7 @@ test-stays r None (From a) is = record { whole = λ h. refl; kept = λ h. refl }
 test-stays r None End is = record { whole = λ h. refl; kept = λ h. refl }
 
 said-stays : (r : Reading) (said : Result Line LineFault) → is_over r.stage ≡ false → IfOk said (IsTaken r.stage) → Stays r (after_said r said)
-said-stays r (Ok line) going is = test-stays r (place_fault r line) line is
+said-stays r (Ok line) going is = test-stays r (stage_fault r line) line is
 said-stays r (Err why) going is = record { whole = λ h. refl; kept = λ h. refl }
 
 stays : (r : Reading) (raw : List ℕ) → Stays r (next r raw)
@@ -127,7 +127,7 @@ after-kept r (line ∷ lines) whole = after-kept (next r line) lines ((stays r l
 
 -- ---- without the map
 
-frame-fault : (r : Reading) (b : Bool) → is_map_whole r.stage ≡ true → place_fault (without_map r) Frame ≡ place_fault r Frame
+frame-fault : (r : Reading) (b : Bool) → is_map_whole r.stage ≡ true → stage_fault (without_map r) Frame ≡ stage_fault r Frame
 frame-fault r b whole =
     let Fault : Bool → Bool → Option LineFault = λ w there.
     option_or (option_map faults.Rule (cond w None (cond there None (Some rules.NoSpawn)))) (cond (nat_le r.limit r.frames) (Some faults.Count) None) in
@@ -141,7 +141,7 @@ test-without r None Frame is whole = refl
 test-without r None (From a) is whole = refl
 test-without r None End is whole = refl
 
-same-fault : (r : Reading) (line : Line) → IsTaken r.stage line → is_map_whole r.stage ≡ true → place_fault (without_map r) line ≡ place_fault r line
+same-fault : (r : Reading) (line : Line) → IsTaken r.stage line → is_map_whole r.stage ≡ true → stage_fault (without_map r) line ≡ stage_fault r line
 same-fault r (OfMap line) is whole = of_map-none r.stage line _ whole is
 same-fault r Frame is whole = frame-fault r true whole
 same-fault r (From a) is whole = refl
@@ -149,7 +149,7 @@ same-fault r End is whole = refl
 
 said-without : (r : Reading) (said : Result Line LineFault) → IfOk said (IsTaken r.stage) → is_map_whole r.stage ≡ true
     → after_said (without_map r) said ≡ without_map (after_said r said)
-said-without r (Ok line) is whole = ap (λ f. after_test (without_map r) f (Some line)) (same-fault r line is whole) ∙ test-without r (place_fault r line) line is whole
+said-without r (Ok line) is whole = ap (λ f. after_test (without_map r) f (Some line)) (same-fault r line is whole) ∙ test-without r (stage_fault r line) line is whole
 said-without r (Err why) is whole = refl
 
 -- what is known, and the fault of the line
@@ -238,7 +238,7 @@ test-there r None (From a) is = record { there = λ has h fine whole. map-there 
 test-there r None End is = record { there = λ has h fine whole. map-there r.stage r h has (started words.End refl r.stage is) }
 
 said-there : (r : Reading) (said : Result Line LineFault) → is_over r.stage ≡ false → IfOk said (IsTaken r.stage) → IsThere r (after_said r said)
-said-there r (Ok line) going is = test-there r (place_fault r line) line is
+said-there r (Ok line) going is = test-there r (stage_fault r line) line is
 said-there r (Err why) going is = record { there = λ has h fine whole. cc }
 
 line-there : (r : Reading) (raw : List ℕ) → IsThere r (next r raw)

@@ -8,7 +8,7 @@ use Rattle.arena_map.specs.declared.map_word.MapWord.{MapWord}
 use Rattle.arena_map.specs.declared.map_word.MapWord.TheVariants as map_words
 use Rattle.arena_map.specs.MapLines.{is_arena}
 use Rattle.arena_map.specs.Words.{fields_of}
-use Rattle.arena_map.specs.Reading.{alone, corners_at, point_at, kind_at, count_at, has_fields, line_within, line_of_first}
+use Rattle.arena_map.specs.Reading.{line_at_end, corners_at, point_at, kind_at, count_at, has_fields, line_within, line_of_first}
 use Rattle.demo_lines.specs.declared.stage.Stage.{Stage}
 use Rattle.demo_lines.specs.declared.stage.Stage.TheVariants.{Start, Map, Playing, Ended, Refused}
 use Rattle.demo_lines.specs.declared.word.Word.TheVariants as words
@@ -25,7 +25,7 @@ abbrev pub IsKind : Bool → Option MapLine → Type 0
 IsKind b None = Unit {0}
 IsKind b (Some line) = is_arena line ≡ b
 
-alone-kind : (line : MapLine) (rest : List ℕ) (b : Bool) → is_arena line ≡ b → IsKind b (alone line rest)
+alone-kind : (line : MapLine) (rest : List ℕ) (b : Bool) → is_arena line ≡ b → IsKind b (line_at_end line rest)
 alone-kind line [] b is = is
 alone-kind line (c ∷ rest) b is = tt
 
@@ -35,28 +35,28 @@ then-kind (Some a) f b each = each a
 
 pub within-kind : (word : MapWord) (rest : List ℕ) → IsKind (is_arena_word word) (line_within word rest)
 within-kind map_words.Arena rest =
-    then-kind (corners_at rest) (λ c. alone (Arena c.0 c.1) c.2) true (λ c. alone-kind (Arena c.0 c.1) c.2 true refl)
+    then-kind (corners_at rest) (λ c. line_at_end (Arena c.0 c.1) c.2) true (λ c. alone-kind (Arena c.0 c.1) c.2 true refl)
 within-kind map_words.Block rest =
-    then-kind (corners_at rest) (λ c. alone (Block c.0 c.1) c.2) false (λ c. alone-kind (Block c.0 c.1) c.2 false refl)
+    then-kind (corners_at rest) (λ c. line_at_end (Block c.0 c.1) c.2) false (λ c. alone-kind (Block c.0 c.1) c.2 false refl)
 within-kind map_words.Spawn rest =
-    then-kind (point_at rest) (λ at. alone (Spawn at.0) at.1) false (λ at. alone-kind (Spawn at.0) at.1 false refl)
+    then-kind (point_at rest) (λ at. line_at_end (Spawn at.0) at.1) false (λ at. alone-kind (Spawn at.0) at.1 false refl)
 within-kind map_words.Item rest =
-    then-kind (point_at rest) (λ at. kind_at at.1 >>= (λ kind. count_at 65535 kind.1 >>= (λ delay. alone (Item at.0 kind.0 delay.0) delay.1))) false
-    (λ at. then-kind (kind_at at.1) (λ kind. count_at 65535 kind.1 >>= (λ delay. alone (Item at.0 kind.0 delay.0) delay.1)) false
-    (λ kind. then-kind (count_at 65535 kind.1) (λ delay. alone (Item at.0 kind.0 delay.0) delay.1) false
+    then-kind (point_at rest) (λ at. kind_at at.1 >>= (λ kind. count_at 65535 kind.1 >>= (λ delay. line_at_end (Item at.0 kind.0 delay.0) delay.1))) false
+    (λ at. then-kind (kind_at at.1) (λ kind. count_at 65535 kind.1 >>= (λ delay. line_at_end (Item at.0 kind.0 delay.0) delay.1)) false
+    (λ kind. then-kind (count_at 65535 kind.1) (λ delay. line_at_end (Item at.0 kind.0 delay.0) delay.1) false
     (λ delay. alone-kind (Item at.0 kind.0 delay.0) delay.1 false refl)))
 within-kind map_words.Teleport rest =
-    then-kind (corners_at rest) (λ c. point_at c.2 >>= (λ dest. alone (Teleport c.0 c.1 dest.0) dest.1)) false
-    (λ c. then-kind (point_at c.2) (λ dest. alone (Teleport c.0 c.1 dest.0) dest.1) false (λ dest. alone-kind (Teleport c.0 c.1 dest.0) dest.1 false refl))
+    then-kind (corners_at rest) (λ c. point_at c.2 >>= (λ dest. line_at_end (Teleport c.0 c.1 dest.0) dest.1)) false
+    (λ c. then-kind (point_at c.2) (λ dest. line_at_end (Teleport c.0 c.1 dest.0) dest.1) false (λ dest. alone-kind (Teleport c.0 c.1 dest.0) dest.1 false refl))
 within-kind map_words.Goal rest =
-    then-kind (corners_at rest) (λ c. alone (Goal c.0 c.1) c.2) false (λ c. alone-kind (Goal c.0 c.1) c.2 false refl)
+    then-kind (corners_at rest) (λ c. line_at_end (Goal c.0 c.1) c.2) false (λ c. alone-kind (Goal c.0 c.1) c.2 false refl)
 within-kind map_words.Lift rest =
-    then-kind (corners_at rest) (λ c. count_at 1048576 c.2 >>= (λ rise. count_at 2560 rise.1 >>= (λ speed. alone (Lift c.0 c.1 (pos rise.0) (pos speed.0)) speed.1))) false
-    (λ c. then-kind (count_at 1048576 c.2) (λ rise. count_at 2560 rise.1 >>= (λ speed. alone (Lift c.0 c.1 (pos rise.0) (pos speed.0)) speed.1)) false
-    (λ rise. then-kind (count_at 2560 rise.1) (λ speed. alone (Lift c.0 c.1 (pos rise.0) (pos speed.0)) speed.1) false
+    then-kind (corners_at rest) (λ c. count_at 1048576 c.2 >>= (λ rise. count_at 2560 rise.1 >>= (λ speed. line_at_end (Lift c.0 c.1 (pos rise.0) (pos speed.0)) speed.1))) false
+    (λ c. then-kind (count_at 1048576 c.2) (λ rise. count_at 2560 rise.1 >>= (λ speed. line_at_end (Lift c.0 c.1 (pos rise.0) (pos speed.0)) speed.1)) false
+    (λ rise. then-kind (count_at 2560 rise.1) (λ speed. line_at_end (Lift c.0 c.1 (pos rise.0) (pos speed.0)) speed.1) false
     (λ speed. alone-kind (Lift c.0 c.1 (pos rise.0) (pos speed.0)) speed.1 false refl)))
 within-kind map_words.Depth rest =
-    then-kind _ (λ (d : ℕ × List ℕ). alone (Depth d.0) d.1) false (λ d. alone-kind (Depth d.0) d.1 false refl)
+    then-kind _ (λ (d : ℕ × List ℕ). line_at_end (Depth d.0) d.1) false (λ d. alone-kind (Depth d.0) d.1 false refl)
 within-kind map_words.Shots rest = alone-kind Shots rest false refl
 
 arena-here : (stage : Stage) (word : MapWord) (line : MapLine) → is_allowed stage (words.OfMap word) ≡ true → is_arena line ≡ is_arena_word word → IsOfMap stage line
@@ -67,7 +67,7 @@ arena-here Ended word line here kind = cc
 arena-here (Refused why) word line here kind = cc
 
 said-parts : (stage : Stage) (word : MapWord) (form here : Bool) (within : Option MapLine) (line : MapLine) → is_allowed stage (words.OfMap word) ≡ here
-    → IsKind (is_arena_word word) within → cond form (cond here (ok_or within faults.Limit) (Err faults.Place)) (Err faults.Form) ≡ Ok line → IsOfMap stage line
+    → IsKind (is_arena_word word) within → cond form (cond here (ok_or within faults.Limit) (Err faults.NotAllowed)) (Err faults.Form) ≡ Ok line → IsOfMap stage line
 said-parts stage word false here within line is kind h = cc
 said-parts stage word true false within line is kind h = cc
 said-parts stage word true true None line is kind h = cc
@@ -87,7 +87,7 @@ map_line-here stage word rest line h =
 -- ---- the answer of reading a map line, in the order of the faults
 
 ordered : (form here : Bool) (within : Option MapLine)
-    → in_order here (cond form (ok_or within 6) (Err 4)) ≡ cond form (cond here (ok_or within faults.Limit) (Err faults.Place)) (Err faults.Form)
+    → in_order here (cond form (ok_or within 6) (Err 4)) ≡ cond form (cond here (ok_or within faults.Limit) (Err faults.NotAllowed)) (Err faults.Form)
 ordered false here within = refl
 ordered true true None = refl
 ordered true false None = refl

@@ -22,11 +22,11 @@ use Rattle.demo_lines.specs.Words.{is_nothing, is_allowed, from_fields}
 use Rattle.demo_lines.specs.Lines.{text_of, are_printable, first_word, rest_of, line_of_first, line_in}
 use Rattle.demo_lines.specs.Faults.{is_long, broken_by_line, broken_by_some, fault_of_words, fault_of}
 use Rattle.demo_lines.specs.Recording.{next, after_test, event_of, events_of_test, events_of_line}
-use Rattle.demo_lines.specs.Said.{of_map, from_said, port_said, packet_said, first_said, line_said, place_fault, after_said}
+use Rattle.demo_lines.specs.Said.{of_map, from_said, port_said, packet_said, first_said, line_said, stage_fault, after_said}
 
 -- the fault of what a line says at its place
 abbrev pub fault_said : Reading → Result Line LineFault → Option LineFault
-fault_said r (Ok line) = place_fault r line
+fault_said r (Ok line) = stage_fault r line
 fault_said r (Err why) = Some why
 
 or_none : (o : Option LineFault) → option_or o None ≡ o
@@ -36,7 +36,7 @@ or_none (Some why) = refl
 -- what a port and a packet say, where they are allowed here
 abbrev from_read : Bool → Option (List ℕ × List ℕ) → Result Line LineFault
 from_read here None = Err faults.Form
-from_read here (Some fields) = cond here (port_said (natural_up_to 65535 fields.0) fields.1) (Err faults.Place)
+from_read here (Some fields) = cond here (port_said (natural_up_to 65535 fields.0) fields.1) (Err faults.NotAllowed)
 
 from_read-is : (stage : Stage) (fields : Option (List ℕ × List ℕ)) → from_said stage fields ≡ from_read (is_allowed stage words.From) fields
 from_read-is stage None = refl
@@ -45,16 +45,16 @@ from_read-is stage (Some fields) = refl
 -- ---- by the word
 
 of_map-fault : (r : Reading) (form here : Bool) (within : Option MapLine)
-    → cond (not form) (Some faults.Form) (cond (not here) (Some faults.Place)
+    → cond (not form) (Some faults.Form) (cond (not here) (Some faults.NotAllowed)
     (cond (is_none within) (Some faults.Limit) (option_or (option_map faults.Rule (broken_by_some r.map within)) None)))
-    ≡ fault_said r (of_map (cond form (cond here (ok_or within faults.Limit) (Err faults.Place)) (Err faults.Form)))
+    ≡ fault_said r (of_map (cond form (cond here (ok_or within faults.Limit) (Err faults.NotAllowed)) (Err faults.Form)))
 of_map-fault r false here within = refl
 of_map-fault r true false within = refl
 of_map-fault r true true None = refl
 of_map-fault r true true (Some line) = or_none (option_map faults.Rule (broken_by_line r.map line))
 
-bare-fault : (r : Reading) (form here : Bool) (line : Line) (fault : Option LineFault) → fault ≡ place_fault r line
-    → cond (not form) (Some faults.Form) (cond (not here) (Some faults.Place) fault) ≡ fault_said r (cond form (cond here (Ok line) (Err faults.Place)) (Err faults.Form))
+bare-fault : (r : Reading) (form here : Bool) (line : Line) (fault : Option LineFault) → fault ≡ stage_fault r line
+    → cond (not form) (Some faults.Form) (cond (not here) (Some faults.NotAllowed) fault) ≡ fault_said r (cond form (cond here (Ok line) (Err faults.NotAllowed)) (Err faults.Form))
 bare-fault r false here line fault is = refl
 bare-fault r true false line fault is = refl
 bare-fault r true true line fault is = is
@@ -67,7 +67,7 @@ values-fault r (Some port) None packet is = ap (λ o. fault_said r (packet_said 
 values-fault r (Some port) (Some bytes) packet is = ap (λ o. fault_said r (packet_said o port)) (sym is)
 
 from-fault : (r : Reading) (here : Bool) (fields : Option (List ℕ × List ℕ))
-    → cond (not (is_some fields)) (Some faults.Form) (cond (not here) (Some faults.Place)
+    → cond (not (is_some fields)) (Some faults.Form) (cond (not here) (Some faults.NotAllowed)
     (cond (is_none (fields >>= (λ f. natural_up_to 65535 f.0))) (Some faults.Limit)
     (cond (is_none (fields >>= (λ f. packet_bytes f.1))) (Some faults.Packet) (cond (nat_le 512 r.arrivals) (Some faults.Count) None))))
     ≡ fault_said r (from_read here fields)
@@ -97,13 +97,13 @@ fault-said r raw short =
 -- ---- what it says
 
 of_map-line : (form here : Bool) (within : Option MapLine) (line : Line)
-    → of_map (cond form (cond here (ok_or within faults.Limit) (Err faults.Place)) (Err faults.Form)) ≡ Ok line → option_map OfMap within ≡ Some line
+    → of_map (cond form (cond here (ok_or within faults.Limit) (Err faults.NotAllowed)) (Err faults.Form)) ≡ Ok line → option_map OfMap within ≡ Some line
 of_map-line false here within line h = cc
 of_map-line true false within line h = cc
 of_map-line true true None line h = cc
 of_map-line true true (Some l) line h = cc
 
-bare-line : (form here : Bool) (said line : Line) → cond form (cond here (Ok said) (Err faults.Place)) (Err faults.Form) ≡ Ok line → Some said ≡ Some line
+bare-line : (form here : Bool) (said line : Line) → cond form (cond here (Ok said) (Err faults.NotAllowed)) (Err faults.Form) ≡ Ok line → Some said ≡ Some line
 bare-line false here said line h = cc
 bare-line true false said line h = cc
 bare-line true true said line h = cc
@@ -145,7 +145,7 @@ line-said stage raw line h = text-line stage (are_printable (text_of raw)) (firs
 
 after-by : (r : Reading) (fault : Option LineFault) (line : Option Line) (said : Result Line LineFault) → fault ≡ fault_said r said
     → ((l : Line) → said ≡ Ok l → line ≡ Some l) → after_test r fault line ≡ after_said r said
-after-by r fault line (Ok l) is says = ap (λ f. after_test r f line) is ∙ ap (after_test r (place_fault r l)) (says l refl)
+after-by r fault line (Ok l) is says = ap (λ f. after_test r f line) is ∙ ap (after_test r (stage_fault r l)) (says l refl)
 after-by r fault line (Err why) is says = ap (λ f. after_test r f line) is
 
 pub next-said : (r : Reading) (raw : List ℕ) → is_over r.stage ≡ false → is_long raw ≡ false → next r raw ≡ after_said r (line_said r.stage raw)
@@ -160,7 +160,7 @@ place-events r (Some why) line fine = cc
 events-by : (r : Reading) (fault : Option LineFault) (line : Option Line) (said : Result Line LineFault) → fault ≡ fault_said r said
     → ((l : Line) → said ≡ Ok l → line ≡ Some l) → is_refused (after_said r said).stage ≡ false → events_of_test fault line ≡ event_of (result_ok said)
 events-by r fault line (Ok l) is says fine =
-    ap (λ f. events_of_test f line) is ∙ ap (events_of_test (place_fault r l)) (says l refl) ∙ place-events r (place_fault r l) l fine
+    ap (λ f. events_of_test f line) is ∙ ap (events_of_test (stage_fault r l)) (says l refl) ∙ place-events r (stage_fault r l) l fine
 events-by r fault line (Err why) is says fine = cc
 
 pub events-said : (r : Reading) (raw : List ℕ) → is_over r.stage ≡ false → is_long raw ≡ false → is_refused (after_said r (line_said r.stage raw)).stage ≡ false

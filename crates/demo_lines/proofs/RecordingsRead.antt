@@ -24,7 +24,7 @@ use Rattle.arena_map.specs.declared.limits.TheConstants.{MOST_BLOCKS, MOST_BOXES
 use Rattle.arena_map.specs.declared.map_line.MapLine.{MapLine}
 use Rattle.arena_map.specs.declared.map_line.MapLine.TheVariants.{Arena, Block, Spawn, Item, Teleport, Goal, Lift, Depth, Shots}
 use Rattle.arena_map.specs.declared.map_fault.MapFault.TheVariants as fault
-use Rattle.arena_map.specs.Places.{is_thick, shaft, shaft_of, keeps_box, keeps_stand, keeps_item, keeps_travel}
+use Rattle.arena_map.specs.Positions.{is_thick, shaft, shaft_of, keeps_box, keeps_stand, keeps_item, keeps_travel}
 use Rattle.arena_map.specs.MapLines.{is_thing_line, is_arena, is_item_line, is_teleport_line, is_goal_line, is_lift_line}
 use Rattle.arena_map.specs.Maps.{MapView, plain_map, IsMap, IsBlock, IsSpawn, IsThingInside, is_ready}
 use Rattle.arena_map.specs.Rules.{with_line, broken_rule, keeps_count, keeps_shafts, meets_shaft}
@@ -38,7 +38,7 @@ use Rattle.demo_lines.specs.declared.event.Event.{Event}
 use Rattle.demo_lines.specs.declared.event.Event.TheVariants as events
 use Rattle.demo_lines.specs.Known.{Reading, start, is_over, is_refused, with_frame}
 use Rattle.demo_lines.specs.Recording.{next, after_line, after_test, event_of, events_of_line, after, events_of}
-use Rattle.demo_lines.specs.Said.{place_fault, after_said}
+use Rattle.demo_lines.specs.Said.{stage_fault, after_said}
 use Rattle.demo_lines.specs.Bytes.{last_part, lines_of, refused_where}
 use Rattle.demo_lines.specs.Spelling.{line_text, IsArrival, IsLine, arena_line, block_line, spawn_line, depth_lines_of, shots_lines_of, setting_lines, map_lines, frame_lines, recording_lines, recording_text, frame_events, recording_events, IsFrame, IsRecording}
 use Rattle.demo_lines.specs.InTurn.{AreAccepted, map_in_turn, lines_in_turn, text_in_turn, IsBuilt}
@@ -80,7 +80,7 @@ fine-after r End = refl
 
 -- one line that has no fault at its place
 goes-line : {I : Type 0} (r : Reading) (line : Line) (s : I → Reading) (i : I) → IsLine line → is_over r.stage ≡ false → IsTaken r.stage line
-    → place_fault r line ≡ None → after_line r (Some line) ≡ s i → Goes r (line ∷ []) s (event_of (Some line))
+    → stage_fault r line ≡ None → after_line r (Some line) ≡ s i → Goes r (line ∷ []) s (event_of (Some line))
 goes-line r line s i is going taken none step =
     let raw = line_text line in
     let reads = line_reads line is in
@@ -389,7 +389,7 @@ goes_packets m frames (x ∷ xs) a n each few =
 
 -- the line of a frame, which has no fault here, and its packets
 goes_frame : (r : Reading) (m : MapView) (frames n : ℕ) (arrivals : List Arrival) → IsFrame arrivals → is_over r.stage ≡ false → IsTaken r.stage Frame
-    → place_fault r Frame ≡ None → with_frame r ≡ playing m frames (0, n) → Goes r (frame_lines arrivals) (playing m frames) (frame_events arrivals)
+    → stage_fault r Frame ≡ None → with_frame r ≡ playing m frames (0, n) → Goes r (frame_lines arrivals) (playing m frames) (frame_events arrivals)
 goes_frame r m frames n arrivals is going taken none opens =
     let Next : Unit {0} → Reading = λ u. playing m frames (0, n) in
     goes-then r (Frame ∷ []) (map From arrivals) Next (playing m frames) (events.Frame ∷ []) (map events.From arrivals)
@@ -400,7 +400,7 @@ abbrev tail_lines : List (List Arrival) → List Line
 tail_lines frames = flat_map frame_lines frames ++ End ∷ []
 
 goes_on : (r : Reading) (m : MapView) (frames n : ℕ) (x : List Arrival) (xs : List (List Arrival)) → IsFrame x → is_over r.stage ≡ false → IsTaken r.stage Frame
-    → place_fault r Frame ≡ None → with_frame r ≡ playing m frames (0, n)
+    → stage_fault r Frame ≡ None → with_frame r ≡ playing m frames (0, n)
     → ((at : ℕ × ℕ) → Goes (playing m frames at) (tail_lines xs) (ended m) (recording_events xs)) → Goes r (tail_lines (x ∷ xs)) (ended m) (recording_events (x ∷ xs))
 goes_on r m frames n x xs is going taken none opens rest =
     let P : List Line → Type 0 = λ ls. Goes r ls (ended m) (recording_events (x ∷ xs)) in

@@ -10,7 +10,7 @@ use Rattle.arena_map.specs.declared.map_fault.MapFault.{MapFault}
 use Rattle.arena_map.specs.declared.map_fault.MapFault.TheVariants as rules
 use Rattle.arena_map.specs.Maps.{MapView, is_ready}
 use Rattle.arena_map.specs.MapLines.{is_arena, is_added, is_item_line, is_teleport_line, is_goal_line, is_lift_line}
-use Rattle.arena_map.specs.Places.{keeps_box}
+use Rattle.arena_map.specs.Positions.{keeps_box}
 use Rattle.arena_map.specs.Rules.{begun_map, with_line, keeps_count}
 use Rattle.arena_map.proofs.Keeping.{count-push, none_yet}
 use Rattle.demo_lines.specs.declared.stage.Stage.{Stage}
@@ -24,8 +24,8 @@ use Rattle.demo_lines.specs.Known.{Reading, is_over, is_map_whole, at_stage, wit
 use Rattle.demo_lines.specs.Words.{is_allowed}
 use Rattle.demo_lines.specs.Faults.{broken_by_line, broken_by_frame, has_spawn}
 use Rattle.demo_lines.specs.Recording.{after_line, after_test, with_map_line, map_lines_left, left_at, lines_left, most_lines}
-use Rattle.demo_lines.specs.Said.{place_fault, after_said}
-use Rattle.demo_lines.specs.Readings.{IsReading, IsOfMap, IsPlaced, HasMap}
+use Rattle.demo_lines.specs.Said.{stage_fault, after_said}
+use Rattle.demo_lines.specs.Readings.{IsReading, IsOfMap, IsAllowedAt, HasMap}
 
 -- the line may be taken at this stage, whatever its numbers are
 abbrev pub IsTaken : Stage → Line → Type 0
@@ -34,7 +34,7 @@ IsTaken stage Frame = is_allowed stage words.Frame ≡ true
 IsTaken stage (From a) = is_allowed stage words.From ≡ true
 IsTaken stage End = is_allowed stage words.End ≡ true
 
-pub taken-placed : (stage : Stage) (line : Line) → IsPlaced stage line → IsTaken stage line
+pub taken-placed : (stage : Stage) (line : Line) → IsAllowedAt stage line → IsTaken stage line
 taken-placed stage (OfMap line) is = is.1
 taken-placed stage Frame is = is
 taken-placed stage (From a) is = is
@@ -186,7 +186,7 @@ ended-goes_on n r holds lines some = record {
 
 -- after a line without a fault at its place
 taken-goes_on : (stage : Stage) (r : Reading) (line : Line) → r.stage ≡ stage → IsReading r → HasMap stage r → r.lines + left_at stage r ≤ most_lines
-    → is_over stage ≡ false → IsTaken stage line → place_fault r line ≡ None → GoesOn (left_at stage r) (after_line r (Some line))
+    → is_over stage ≡ false → IsTaken stage line → stage_fault r line ≡ None → GoesOn (left_at stage r) (after_line r (Some line))
 taken-goes_on Start r (OfMap line) here holds has lines going taken none =
     subst (λ m. GoesOn (left_at Start r) (with_map r (with_map_line m line))) (sym has.0) (begun-goes_on r line holds.limit has.1 has.2 lines taken)
 taken-goes_on Start r Frame here holds has lines going taken none = cc
@@ -235,15 +235,15 @@ taken-goes_on (Refused why) r line here holds has lines going taken none = cc
 -- after what a line says, or its fault
 pub said-goes_on : (r : Reading) (said : Result Line LineFault) → IsReading r → is_over r.stage ≡ false → IfOk said (IsTaken r.stage) → GoesOn (lines_left r) (after_said r said)
 said-goes_on r (Ok line) holds going taken =
-    test-goes_on (lines_left r) r (place_fault r line) line holds holds.lines (some_left r.stage r going)
+    test-goes_on (lines_left r) r (stage_fault r line) line holds holds.lines (some_left r.stage r going)
     (taken-goes_on r.stage r line refl holds holds.map holds.lines going taken)
 said-goes_on r (Err why) holds going taken = refused-goes_on (lines_left r) r why holds holds.lines (some_left r.stage r going)
 
-if_ok-taken : (stage : Stage) (said : Result Line LineFault) → IfOk said (IsPlaced stage) → IfOk said (IsTaken stage)
+if_ok-taken : (stage : Stage) (said : Result Line LineFault) → IfOk said (IsAllowedAt stage) → IfOk said (IsTaken stage)
 if_ok-taken stage (Ok line) placed = taken-placed stage line placed
 if_ok-taken stage (Err why) placed = tt
 
-pub placed-goes_on : (r : Reading) (said : Result Line LineFault) → IsReading r → is_over r.stage ≡ false → IfOk said (IsPlaced r.stage) → GoesOn (lines_left r) (after_said r said)
+pub placed-goes_on : (r : Reading) (said : Result Line LineFault) → IsReading r → is_over r.stage ≡ false → IfOk said (IsAllowedAt r.stage) → GoesOn (lines_left r) (after_said r said)
 placed-goes_on r said holds going placed = said-goes_on r said holds going (if_ok-taken r.stage said placed)
 
 pub refusing-goes_on : (r : Reading) (why : LineFault) → IsReading r → is_over r.stage ≡ false → GoesOn (lines_left r) (at_stage (Refused why) r)

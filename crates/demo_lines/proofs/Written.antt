@@ -295,7 +295,7 @@ from-by : (stage : Stage) (fields : Option (List ℕ × List ℕ)) (line : Line)
     → from_said stage fields ≡ Ok line
 from-by stage None line here h = cc
 from-by stage (Some fields) line here h =
-    ap (λ b. cond b (port_said (natural_up_to 65535 fields.0) fields.1) (Err faults.Place)) here ∙ port-by (natural_up_to 65535 fields.0) fields.1 line h
+    ap (λ b. cond b (port_said (natural_up_to 65535 fields.0) fields.1) (Err faults.NotAllowed)) here ∙ port-by (natural_up_to 65535 fields.0) fields.1 line h
 
 abbrev ok_line : Line → Result Line LineFault
 ok_line line = Ok line
@@ -307,16 +307,16 @@ word_said-by : (stage : Stage) (word : Word) (rest : List ℕ) (line : Line) →
     → word_said stage word rest ≡ Ok line
 word_said-by stage (words.OfMap word) rest line form here says =
     let value = ok_or (line_within word rest) faults.Limit in
-    ap (λ b. of_map (cond b (cond (is_allowed stage (words.OfMap word)) value (Err faults.Place)) (Err faults.Form))) form
-    ∙ ap (λ b. of_map (cond b value (Err faults.Place))) here
+    ap (λ b. of_map (cond b (cond (is_allowed stage (words.OfMap word)) value (Err faults.NotAllowed)) (Err faults.Form))) form
+    ∙ ap (λ b. of_map (cond b value (Err faults.NotAllowed))) here
     ∙ of_map-by (line_within word rest) line says
 word_said-by stage words.Frame rest line form here says =
-    ap (λ b. cond b (cond (is_allowed stage words.Frame) (Ok Frame) (Err faults.Place)) (Err faults.Form)) form
-    ∙ ap (λ b. cond b (Ok Frame) (Err faults.Place)) here ∙ some_ok Frame line says
+    ap (λ b. cond b (cond (is_allowed stage words.Frame) (Ok Frame) (Err faults.NotAllowed)) (Err faults.Form)) form
+    ∙ ap (λ b. cond b (Ok Frame) (Err faults.NotAllowed)) here ∙ some_ok Frame line says
 word_said-by stage words.From rest line form here says = from-by stage (from_fields rest) line here says
 word_said-by stage words.End rest line form here says =
-    ap (λ b. cond b (cond (is_allowed stage words.End) (Ok End) (Err faults.Place)) (Err faults.Form)) form
-    ∙ ap (λ b. cond b (Ok End) (Err faults.Place)) here ∙ some_ok End line says
+    ap (λ b. cond b (cond (is_allowed stage words.End) (Ok End) (Err faults.NotAllowed)) (Err faults.Form)) form
+    ∙ ap (λ b. cond b (Ok End) (Err faults.NotAllowed)) here ∙ some_ok End line says
 
 -- at a stage that allows it a written line says what was written
 pub line_said-back : (stage : Stage) (line : Line) → IsLine line → IsTaken stage line → line_said stage (line_text line) ≡ Ok line

@@ -11,7 +11,7 @@ use Rattle.arena_map.specs.Maps.{MapView, is_ready}
 use Rattle.arena_map.specs.Rules.{broken_at_first, broken_rule}
 use Rattle.arena_map.specs.Reading.{line_within}
 use Rattle.demo_lines.specs.declared.line_fault.LineFault.{LineFault}
-use Rattle.demo_lines.specs.declared.line_fault.LineFault.TheVariants.{Long, NoEnd, Byte, Word, Form, Place, Limit}
+use Rattle.demo_lines.specs.declared.line_fault.LineFault.TheVariants.{Long, NoEnd, Byte, Word, Form, NotAllowed, Limit}
 use Rattle.demo_lines.specs.declared.line_fault.LineFault.TheVariants.{Rule, Packet, Count}
 use Rattle.demo_lines.specs.declared.word.Word as word_types
 use Rattle.demo_lines.specs.declared.word.Word.TheVariants as words
@@ -84,7 +84,7 @@ is_one_too_many r words.End = false
 abbrev pub fault_after_word : Reading → word_types.Word → List ℕ → Option LineFault
 fault_after_word r word rest =
     if not (has_form word rest) then Some Form
-    else if not (is_allowed r.stage word) then Some Place
+    else if not (is_allowed r.stage word) then Some NotAllowed
     else if is_out_of_limit word rest then Some Limit
     else option_or (option_map Rule (broken_by r word rest))
     (if has_no_packet word rest then Some Packet
@@ -116,7 +116,7 @@ fault_number NoEnd = 10
 fault_number Byte = 2
 fault_number Word = 3
 fault_number Form = 4
-fault_number Place = 5
+fault_number NotAllowed = 5
 fault_number Limit = 6
 fault_number (Rule rule) = 7
 fault_number Packet = 8

@@ -8,7 +8,7 @@ use Rattle.arena_map.specs.declared.map_line.MapLine.{MapLine}
 use Rattle.arena_map.specs.declared.map_line.MapLine.TheVariants.{Arena}
 use Rattle.arena_map.specs.MapLines.{IsWithinLimits, is_added}
 use Rattle.arena_map.specs.Maps.{MapView, plain_map, is_ready}
-use Rattle.arena_map.specs.Places.{is_wide}
+use Rattle.arena_map.specs.Positions.{is_wide}
 use Rattle.arena_map.specs.Rules.{with_line, broken_rule}
 use Rattle.packet_read.specs.declared.arrival.Arrival.{Arrival}
 use Rattle.demo_lines.specs.declared.line.Line.{Line}

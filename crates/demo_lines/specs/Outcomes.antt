@@ -61,7 +61,7 @@ module _ {S : Type 0} (s : sources.Ghosts S) where
   pub record FailsToRead (old : DemoReaderView) (source source' : S) : Type 0 where
     pub read_fault : IsOpen old → ReadsFront old.reading (ahead_of old source) (s.left source') []
     pub no_end : s.ended source' ≡ s.ended source
-    pub cause : IsOpen old → HasRisen (s.faults source) (s.faults source')
+    pub fault : IsOpen old → HasRisen (s.faults source) (s.faults source')
     pub sure : IsOpen old → s.never_fails source → ⊥
 
   -- memory for the map was refused

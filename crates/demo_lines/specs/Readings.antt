@@ -23,11 +23,11 @@ IsOfMap Ended line = ⊥
 IsOfMap (Refused why) line = ⊥
 
 -- a line may be taken at this stage: the numbers of one of the map are within their limits
-abbrev pub IsPlaced : Stage → Line → Type 0
-IsPlaced stage (OfMap line) = IsWithinLimits line × IsOfMap stage line
-IsPlaced stage Frame = is_allowed stage words.Frame ≡ true
-IsPlaced stage (From a) = is_allowed stage words.From ≡ true
-IsPlaced stage End = is_allowed stage words.End ≡ true
+abbrev pub IsAllowedAt : Stage → Line → Type 0
+IsAllowedAt stage (OfMap line) = IsWithinLimits line × IsOfMap stage line
+IsAllowedAt stage Frame = is_allowed stage words.Frame ≡ true
+IsAllowedAt stage (From a) = is_allowed stage words.From ≡ true
+IsAllowedAt stage End = is_allowed stage words.End ≡ true
 
 -- what holds at each stage; after the first frame or the end the map may have been given out
 abbrev pub HasMap : Stage → Reading → Type 0

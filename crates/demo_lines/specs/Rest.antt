@@ -61,7 +61,7 @@ module _ {S : Type 0} (s : sources.Ghosts S) where
   -- the reader stopped, since a read failed in this call or before, and keeps that
   pub record FailsToGiveLine (old new : DemoReaderView) (source source' : S) (stop : DemoStop) : Type 0 where
     pub read_fault : old.stop ≡ None → stop ≡ ReadFault
-    pub cause : old.stop ≡ None → HasRisen (s.faults source) (s.faults source')
+    pub fault : old.stop ≡ None → HasRisen (s.faults source) (s.faults source')
     pub sure : old.stop ≡ None → s.never_fails source → ⊥
     pub no_end : old.stop ≡ None → (old.cut ≡ false) × (s.ended source' ≡ s.ended source)
     pub later : s.faults source ≤ s.faults source'

@@ -24,23 +24,23 @@ use Rattle.demo_lines.specs.Words.{from_fields, is_nothing, is_allowed}
 use Rattle.demo_lines.specs.Lines.{text_of, are_printable, first_word, rest_of}
 
 -- the value, where the word is allowed here
-abbrev pub allowed : {X : Type 0} → Stage → Word → Result X LineFault → Result X LineFault
-allowed stage word value = if is_allowed stage word then value else Err faults.Place
+abbrev pub value_if_allowed : {X : Type 0} → Stage → Word → Result X LineFault → Result X LineFault
+value_if_allowed stage word value = if is_allowed stage word then value else Err faults.NotAllowed
 
 -- a line of the map
 abbrev pub map_line_said : Stage → MapWord → List ℕ → Result MapLine LineFault
 map_line_said stage word rest =
     if has_fields (fields_of word) rest
-    then allowed stage (words.OfMap word) (ok_or (line_within word rest) faults.Limit) else Err faults.Form
+    then value_if_allowed stage (words.OfMap word) (ok_or (line_within word rest) faults.Limit) else Err faults.Form
 
 -- the answer of a map line: its form comes first, then its place, then its limits
 abbrev pub in_order : Bool → Result MapLine ℕ → Result MapLine LineFault
-in_order here (Ok line) = if here then Ok line else Err faults.Place
-in_order here (Err n) = if n == 4 then Err faults.Form else if here then Err faults.Limit else Err faults.Place
+in_order here (Ok line) = if here then Ok line else Err faults.NotAllowed
+in_order here (Err n) = if n == 4 then Err faults.Form else if here then Err faults.Limit else Err faults.NotAllowed
 
 -- a line of a word alone
 abbrev pub bare_said : Stage → Word → Line → List ℕ → Result Line LineFault
-bare_said stage word line rest = if is_nothing rest then allowed stage word (Ok line) else Err faults.Form
+bare_said stage word line rest = if is_nothing rest then value_if_allowed stage word (Ok line) else Err faults.Form
 
 -- an arrival from this port
 abbrev pub packet_said : Option (List ℕ) → ℕ → Result Line LineFault
@@ -55,7 +55,7 @@ port_said (Some port) packet = packet_said (packet_bytes packet) port
 -- an arrival with these texts of its port and its packet
 abbrev pub from_said : Stage → Option (List ℕ × List ℕ) → Result Line LineFault
 from_said stage None = Err faults.Form
-from_said stage (Some fields) = allowed stage words.From (port_said (natural_up_to 65535 fields.0) fields.1)
+from_said stage (Some fields) = value_if_allowed stage words.From (port_said (natural_up_to 65535 fields.0) fields.1)
 
 -- the line of the map
 abbrev pub of_map : Result MapLine LineFault → Result Line LineFault
@@ -83,14 +83,14 @@ line_said stage raw =
 -- ---- at its place
 
 -- the fault of a line at its place: the rule of the map that it breaks, or that it is one too many
-abbrev pub place_fault : Reading → Line → Option LineFault
-place_fault r (OfMap line) = option_map faults.Rule (broken_by_line r.map line)
-place_fault r Frame =
+abbrev pub stage_fault : Reading → Line → Option LineFault
+stage_fault r (OfMap line) = option_map faults.Rule (broken_by_line r.map line)
+stage_fault r Frame =
     option_or (option_map faults.Rule (broken_by_frame r)) (if nat_le r.limit r.frames then Some faults.Count else None)
-place_fault r (From a) = if nat_le MOST_ARRIVALS r.arrivals then Some faults.Count else None
-place_fault r End = None
+stage_fault r (From a) = if nat_le MOST_ARRIVALS r.arrivals then Some faults.Count else None
+stage_fault r End = None
 
 -- after a line that says this, or has this fault
 abbrev pub after_said : Reading → Result Line LineFault → Reading
-after_said r (Ok line) = after_test r (place_fault r line) (Some line)
+after_said r (Ok line) = after_test r (stage_fault r line) (Some line)
 after_said r (Err why) = at_stage (Refused why) r

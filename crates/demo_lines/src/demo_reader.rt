@@ -44,12 +44,12 @@ impl DemoReader {
     pub fn new(alloc: Global) -> Result<DemoReader, AllocError>
         ensures { IfOk result (λ demo. demo ≡ fresh_reader) }
     {
-        DemoReader::limited(alloc, MOST_FRAMES)
+        DemoReader::with_frame_limit(alloc, MOST_FRAMES)
     }
 
     /// A reader that has read nothing, of a recording with at most so many frames: one more is refused, as with
     /// [`new`](Self::new) the 100,001st is.
-    pub fn limited(alloc: Global, frames: u32) -> Result<DemoReader, AllocError>
+    pub fn with_frame_limit(alloc: Global, frames: u32) -> Result<DemoReader, AllocError>
         requires { frames ≤ MOST_FRAMES }
         ensures { IfOk result (λ demo. demo ≡ fresh_within frames) }
     {

@@ -7,7 +7,7 @@ ghost use Rattle.arena_map.specs.Reading.{is_word_of_play};
 ghost use Rattle.demo_lines.specs.Lines as lines;
 ghost use Rattle.demo_lines.specs.Words as words;
 ghost use Rattle.demo_lines.specs.Said as said;
-ghost use Rattle.demo_lines.specs.Readings.{IsPlaced, IsOfMap};
+ghost use Rattle.demo_lines.specs.Readings.{IsAllowedAt, IsOfMap};
 
 use crate::line_fault::LineFault;
 use crate::packet::packet_of;
@@ -62,7 +62,7 @@ fn in_order(read: Result<MapLine, u8>, is_here: bool) -> Result<MapLine, LineFau
 {
     match read {
         Err(NO_FORM) => Err(LineFault::Form),
-        _ if !is_here => Err(LineFault::Place),
+        _ if !is_here => Err(LineFault::NotAllowed),
         // The first word is one of a map, so that its fault is `OUT_OF_LIMIT`: no other one is left.
         Err(_) => Err(LineFault::Limit),
         Ok(line) => Ok(line),
@@ -88,7 +88,7 @@ fn bare(stage: Stage, word: Word, line: Line, rest: &[u8]) -> Result<Line, LineF
         return Err(LineFault::Form);
     }
     if !word.is_allowed(stage) {
-        return Err(LineFault::Place);
+        return Err(LineFault::NotAllowed);
     }
     Ok(line)
 }
@@ -118,13 +118,13 @@ fn port_of(text: &[u8]) -> Option<u16>
 fn from_of(stage: Stage, rest: &[u8]) -> Result<Line, LineFault>
     requires { length rest.now + 4 ≤ LONGEST }
     ensures value { result ≡ said.from_said stage (words.from_fields rest.now) }
-    ensures placed { IfOk result (IsPlaced stage) }
+    ensures placed { IfOk result (IsAllowedAt stage) }
 {
     let Some((port, packet)) = from_fields(rest) else {
         return Err(LineFault::Form);
     };
     if !Word::From.is_allowed(stage) {
-        return Err(LineFault::Place);
+        return Err(LineFault::NotAllowed);
     }
     let port = port_of(port).ok_or(LineFault::Limit)?;
     let bytes = packet_of(packet).ok_or(LineFault::Packet)?;
@@ -136,7 +136,7 @@ fn from_of(stage: Stage, rest: &[u8]) -> Result<Line, LineFault>
 pub fn line_at(stage: Stage, raw: &[u8]) -> Result<Line, LineFault>
     requires { length raw.now ≤ LONGEST }
     ensures value { result ≡ said.line_said stage raw.now }
-    ensures placed { IfOk result (IsPlaced stage) }
+    ensures placed { IfOk result (IsAllowedAt stage) }
 {
     let text = text_of(raw);
     if !are_printable(text) {

@@ -24,7 +24,7 @@ pub enum LineFault {
     Form,
     /// It isn't allowed at its place.
     #[error("the line is not allowed here")]
-    Place,
+    NotAllowed,
     /// A number is out of its limit.
     #[error("a number is out of its limit")]
     Limit,
@@ -51,7 +51,7 @@ impl LineFault {
             LineFault::Byte => 2,
             LineFault::Word => 3,
             LineFault::Form => 4,
-            LineFault::Place => 5,
+            LineFault::NotAllowed => 5,
             LineFault::Limit => 6,
             LineFault::Rule(_) => 7,
             LineFault::Packet => 8,

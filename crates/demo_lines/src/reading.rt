@@ -9,7 +9,7 @@ ghost use Rattle.demo_lines.specs.Known as known;
 ghost use Rattle.demo_lines.specs.Faults as faults;
 ghost use Rattle.demo_lines.specs.Recording as recording;
 ghost use Rattle.demo_lines.specs.Said as said;
-ghost use Rattle.demo_lines.specs.Readings.{IsReading, IsPlaced};
+ghost use Rattle.demo_lines.specs.Readings.{IsReading, IsAllowedAt};
 ghost use Rattle.demo_lines.specs.Reads.{IsQuiet};
 
 use crate::event::Event;
@@ -136,7 +136,7 @@ impl Reading {
 
     /// The fault of a line that opens a frame.
     fn frame_fault(&self) -> Option<LineFault>
-        ensures { result ≡ said.place_fault self.now Line.Frame }
+        ensures { result ≡ said.stage_fault self.now Line.Frame }
     {
         if !self.stage.is_map_whole() && !self.has_spawn() {
             Some(LineFault::Rule(MapFault::NoSpawn))
@@ -197,7 +197,7 @@ impl Reading {
     fn go_on(&mut self, alloc: Global, line: &Result<Line, LineFault>) -> Result<(), AllocError>
         requires reading { IsReading self.old }
         requires going { known.is_over self.old.stage ≡ false }
-        requires placed { IfOk line.now (IsPlaced self.old.stage) }
+        requires placed { IfOk line.now (IsAllowedAt self.old.stage) }
         ensures next { OnOk result (self.new ≡ said.after_said self.old line.now) }
         ensures unchanged { OnErr result (self.new ≡ self.old) }
         ensures quiet { OnErr result (IsQuiet self.old line.now) }
@@ -217,7 +217,7 @@ impl Reading {
     pub fn take(&mut self, alloc: Global, line: &Result<Line, LineFault>) -> Result<(), AllocError>
         requires reading { IsReading self.old }
         requires going { known.is_over self.old.stage ≡ false }
-        requires placed { IfOk line.now (IsPlaced self.old.stage) }
+        requires placed { IfOk line.now (IsAllowedAt self.old.stage) }
         ensures next { OnOk result (self.new ≡ said.after_said self.old line.now) }
         ensures unchanged { OnErr result (self.new ≡ self.old) }
         ensures quiet { OnErr result (IsQuiet self.old line.now) }

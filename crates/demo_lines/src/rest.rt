@@ -49,7 +49,7 @@ pub(crate) fn next_rest<S: Source>(
     ensures before_end { IfOk result (λ is. OnTrue is (S.ended source.new ≡ S.ended source.old)) }
     ensures no_end { OnErr result (S.ended source.new ≡ S.ended source.old) }
     ensures later { S.faults source.old ≤ S.faults source.new }
-    ensures cause { OnErr result (HasRisen (S.faults source.old) (S.faults source.new)) }
+    ensures fault { OnErr result (HasRisen (S.faults source.old) (S.faults source.new)) }
     ensures uncounted { OnOk result (S.faults source.new ≡ S.faults source.old) }
     ensures sure { S.never_fails source.old → IsOk result }
     ensures keeps { S.never_fails source.old → S.never_fails source.new }

@@ -181,7 +181,7 @@ move-accepted players last seq moved frame word r place are below rises small =
     ap (λ packet. after_packet generated_map frame packet r place (moved + 1)) (move-read seq (moved + 1) word small)
     ∙ ap (λ answer. after_move answer frame (move_of seq word ∷ []) r place)
     (move-answered players last seq moved word r.state.clients are below rises)
-    ∙ ap (λ new. receiving_of (with_update r.state (answers.moved (waiter moved last) new)) (with_moves r.lists (map (command_in frame moved) new)))
+    ∙ ap (λ new. receiving_of (with_update r.state (answers.with_new_moves (waiter moved last) new)) (with_moves r.lists (map (command_in frame moved) new)))
     (new-one last (move_of seq word) rises)
 
 moves-run : (seed players last frame moved n : ℕ) (r : Receiving) (place : ℕ) → AreMoved players last (frame + 1) moved r.state.clients

@@ -7,7 +7,7 @@ use Rattle.std.proofs.lemmas.Bool.Decides.{nat_tests}
 use Rattle.std.proofs.lemmas.List.Elements.{All-cons, All-nil, All-map, All-append, recursion_from_All}
 use Rattle.std.proofs.lemmas.List.{length-map}
 use Rattle.std.proofs.lemmas.List.FromFn.{length-map-range_with_len}
-use Rattle.packet_read.specs.declared.packet.Packet.TheVariants.{Join, Step}
+use Rattle.packet_read.specs.declared.packet.Packet.TheVariants.{Join, Move}
 use Rattle.packet_read.specs.Reading.{reading}
 use Rattle.packet_read.specs.Spelling.{IsAllowedMove, MoveFits}
 use Rattle.packet_read.proofs.Again.{packet_again}
@@ -47,8 +47,8 @@ move-fits seq word few = record {
 pub join-read : (port : ℕ) → reading (join_from port).bytes ≡ Ok Join
 join-read port = packet_again Join tt tt
 
-pub move-read : (seq port word : ℕ) → seq < 2 ^ 32 → reading (move_from seq port word).bytes ≡ Ok (Step (move_of seq word))
-move-read seq port word few = packet_again (Step (move_of seq word)) (move-fits seq word few) (move-allowed seq word)
+pub move-read : (seq port word : ℕ) → seq < 2 ^ 32 → reading (move_from seq port word).bytes ≡ Ok (Move (move_of seq word))
+move-read seq port word few = packet_again (Move (move_of seq word)) (move-fits seq word few) (move-allowed seq word)
 
 join-arrival : (port : ℕ) → port ≤ 64 → IsArrival (join_from port)
 join-arrival port few = record {

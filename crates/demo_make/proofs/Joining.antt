@@ -16,7 +16,7 @@ use Rattle.entity_recs.specs.declared.rec.Rec.{Rec}
 use Rattle.entity_recs.specs.Bodies.{body_of, player_body}
 use Rattle.entity_recs.specs.Kinds.{is_solid}
 use Rattle.entity_slots.specs.Ports.{has_port, port_at, is_joined}
-use Rattle.entity_slots.specs.Places.{free_slot, place_for}
+use Rattle.entity_slots.specs.FreeSlots.{free_slot, slot_for}
 use Rattle.arena_map.specs.Maps.{solids_of}
 use Rattle.world_tree.specs.Live.{record_at}
 use Rattle.world_tree.specs.Queries.{is_free, solids_in}
@@ -24,7 +24,7 @@ use Rattle.world_tree.specs.Walks.{is_in_the_way}
 use Rattle.world_tree.proofs.Found.{in_the_way-is}
 use Rattle.client_ports.specs.Clients.{client, client_at, port_of, ports_of, new_client}
 use Rattle.client_ports.specs.States.{State, newcomer, with_newcomer}
-use Rattle.client_ports.specs.Answers.{place_at, free_spawn, join_answer}
+use Rattle.client_ports.specs.Answers.{join_point, free_spawn, join_answer}
 use Rattle.client_ports.proofs.Slots.{port_at-client, read-set}
 use Rattle.demo_make.specs.GeneratedMap.{generated_map, spawn_at}
 use Rattle.demo_make.specs.Accepting.{IsClearOfSpawns}
@@ -72,7 +72,7 @@ slot-next k state are below =
     let within : ltb k (length ports) ≡ true = grind (arith, nat_tests) in
     rw first (rw within refl)
 
-place-next : (k : ℕ) (state : State) → AreJoined k state → k < 64 → place_for (ports_of state.clients) (k + 1) ≡ Ok k
+place-next : (k : ℕ) (state : State) → AreJoined k state → k < 64 → slot_for (ports_of state.clients) (k + 1) ≡ Ok k
 place-next k state are below = rw (not_joined k state are) (rw (slot-next k state are below) refl)
 
 -- ---- the spawn
@@ -174,7 +174,7 @@ spawn-next k state are few =
     (subst (λ j. test (spawn_at j) ≡ true) (sym (none k)) (open-spawn k state are few))
     ∙ ap (λ j. Some (spawn_at j)) (none k)
 
-pub join-next : (k : ℕ) (state : State) → AreJoined k state → k < 64 → join_answer generated_map state (k + 1) ≡ Ok (place_at k (spawn_at k))
+pub join-next : (k : ℕ) (state : State) → AreJoined k state → k < 64 → join_answer generated_map state (k + 1) ≡ Ok (join_point k (spawn_at k))
 join-next k state are few = rw (place-next k state are few) (rw (spawn-next k state are few) refl)
 
 -- ---- the state after it

@@ -7,7 +7,7 @@ use Rattle.std.proofs.lemmas.List.FromFn.{length-range_with_len, get_or-range_wi
 use Rattle.std.proofs.lemmas.List.Sums.{AllPass-from_list_all}
 use Rattle.arena_geo.specs.Boxes.{contains, is_blocked}
 use Rattle.arena_map.specs.declared.map_line.MapLine.{MapLine}
-use Rattle.arena_map.specs.Places.{is_thick, is_player_inside, keeps_item}
+use Rattle.arena_map.specs.Positions.{is_thick, is_player_inside, keeps_item}
 use Rattle.arena_map.specs.Maps.{IsSpawn, IsBlock, IsThingInside, IsMap}
 use Rattle.demo_make.specs.GeneratedMap.{arena, spawn_at, block_at, item_line, low_teleport, high_teleport, goal_line, lift_line, things, generated_map}
 use Rattle.demo_make.specs.Laws.{MapIsKnown}

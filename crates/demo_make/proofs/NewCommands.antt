@@ -9,8 +9,8 @@ use Rattle.std.proofs.lemmas.List.{map-append}
 use Rattle.std.proofs.lemmas.List.FromFn.{length-map-range_with_len}
 use Rattle.packet_read.specs.declared.block_list.CmdBlock.{CmdBlock}
 use Rattle.packet_read.specs.declared.move_packet.MovePacket.{MovePacket}
-use Rattle.packet_read.specs.declared.packet.Packet.TheVariants.{Steps}
-use Rattle.packet_read.specs.Commands.{numbered, numbered_from, commands_of, first_seq}
+use Rattle.packet_read.specs.declared.packet.Packet.TheVariants.{Moves}
+use Rattle.packet_read.specs.Commands.{move_with_number, moves_numbered_from, commands_of, first_seq}
 use Rattle.client_ports.specs.NewMoves.{new_among, numbers_in, last_in}
 use Rattle.demo_make.specs.ResentFrames.{command_in, how_many_in, last_commands, arrives}
 use Rattle.demo_make.specs.Repeating.{last_before, commands_from, new_commands}
@@ -21,55 +21,55 @@ use Rattle.demo_make.proofs.LastNumbers.{last-come, last-lost, last-low, last-hi
 
 -- commands of a range, with their numbers
 numbered-range : (f : ℕ → CmdBlock) (a n : ℕ)
-    → numbered_from (a + 1) (map f (range_with_len a n)) ≡ map (λ m. numbered m (f (m - 1))) (range_with_len (a + 1) n)
+    → moves_numbered_from (a + 1) (map f (range_with_len a n)) ≡ map (λ m. move_with_number m (f (m - 1))) (range_with_len (a + 1) n)
 numbered-range f a zero = refl
 numbered-range f a (suc n) =
     let e : a ≡ a + 1 - 1 = omega arith in
-    ap (λ k. numbered (a + 1) (f k) ∷ numbered_from (a + 1 + 1) (map f (range_with_len (a + 1) n))) e
-    ∙ ap (λ ms. numbered (a + 1) (f (a + 1 - 1)) ∷ ms) (numbered-range f (a + 1) n)
+    ap (λ k. move_with_number (a + 1) (f k) ∷ moves_numbered_from (a + 1 + 1) (map f (range_with_len (a + 1) n))) e
+    ∙ ap (λ ms. move_with_number (a + 1) (f (a + 1 - 1)) ∷ ms) (numbered-range f (a + 1) n)
 
-packet-commands : (seed players frame port : ℕ) → commands_of (Steps (repeat_of seed players frame port))
+packet-commands : (seed players frame port : ℕ) → commands_of (Moves (repeat_of seed players frame port))
     ≡ commands_from seed players port (frame + 1 - how_many_in frame + 1) (how_many_in frame)
 packet-commands seed players frame port =
     let first = frame + 1 - how_many_in frame in
     let cmds = last_commands seed players frame port in
     let e : first_seq (repeat_of seed players frame port) ≡ first + 1 =
     omega (arith, commands-length seed players frame port, many-some frame, many-there frame) in
-    ap (λ n. numbered_from n cmds) e ∙ numbered-range (command_in seed players port) first (how_many_in frame)
+    ap (λ n. moves_numbered_from n cmds) e ∙ numbered-range (command_in seed players port) first (how_many_in frame)
 
 -- ---- which of them are new
 
 all-new : (f : ℕ → CmdBlock) (last a n : ℕ) → last < a
-    → let moves = map (λ m. numbered m (f (m - 1))) (range_with_len a n) in new_among last moves ≡ moves
+    → let moves = map (λ m. move_with_number m (f (m - 1))) (range_with_len a n) in new_among last moves ≡ moves
 all-new f last a zero above = refl
 all-new f last a (suc n) above =
     let new : nat_lt last a ≡ true = grind (arith, nat_tests) in
     let rest = all-new f last (a + 1) n (omega arith) in
-    rw new (ap (λ ms. numbered a (f (a - 1)) ∷ ms) rest)
+    rw new (ap (λ ms. move_with_number a (f (a - 1)) ∷ ms) rest)
 
 some-new : (f : ℕ → CmdBlock) (last a n : ℕ) → a ≤ last + 1 → last + 1 ≤ a + n
-    → new_among last (map (λ m. numbered m (f (m - 1))) (range_with_len a n))
-    ≡ map (λ m. numbered m (f (m - 1))) (range_with_len (last + 1) (a + n - (last + 1)))
+    → new_among last (map (λ m. move_with_number m (f (m - 1))) (range_with_len a n))
+    ≡ map (λ m. move_with_number m (f (m - 1))) (range_with_len (last + 1) (a + n - (last + 1)))
 some-new f last a zero low high =
     let none : 0 ≡ a + 0 - (last + 1) = omega arith in
-    ap (λ k. map (λ m. numbered m (f (m - 1))) (range_with_len (last + 1) k)) none
+    ap (λ k. map (λ m. move_with_number m (f (m - 1))) (range_with_len (last + 1) k)) none
 some-new f last a (suc n) low high = elim (cases_lt last a) [
   | inl above ↦
       let first : a ≡ last + 1 = omega arith in
       let count : suc n ≡ a + suc n - (last + 1) = omega arith in
       all-new f last a (suc n) above
-      ∙ ap (λ k. map (λ m. numbered m (f (m - 1))) (range_with_len k (suc n))) first
-      ∙ ap (λ k. map (λ m. numbered m (f (m - 1))) (range_with_len (last + 1) k)) count
+      ∙ ap (λ k. map (λ m. move_with_number m (f (m - 1))) (range_with_len k (suc n))) first
+      ∙ ap (λ k. map (λ m. move_with_number m (f (m - 1))) (range_with_len (last + 1) k)) count
   | inr below ↦
       let old : nat_lt last a ≡ false = grind (arith, nat_tests) in
       let count : a + 1 + n - (last + 1) ≡ a + suc n - (last + 1) = omega arith in
       rw old (some-new f last (a + 1) n (omega arith) (omega arith)
-      ∙ ap (λ k. map (λ m. numbered m (f (m - 1))) (range_with_len (last + 1) k)) count)
+      ∙ ap (λ k. map (λ m. move_with_number m (f (m - 1))) (range_with_len (last + 1) k)) count)
 ]
 
 -- those after the last that came before the frame
 pub packet-new : (seed players frames frame port : ℕ) → arrives frames frame port ≡ true
-    → new_among (last_before frames port frame) (commands_of (Steps (repeat_of seed players frame port)))
+    → new_among (last_before frames port frame) (commands_of (Moves (repeat_of seed players frame port)))
     ≡ new_commands seed players frames frame port
 packet-new seed players frames frame port come =
     let last = last_before frames port frame in
@@ -95,12 +95,12 @@ pub new-length : (seed players frames frame port : ℕ) → arrives frames frame
 new-length seed players frames frame port come =
     let last = last_before frames port frame in
     ap (λ b. length (cond b (commands_from seed players port (last + 1) (frame + 1 - last)) [])) come
-    ∙ length-map-range_with_len (λ n. numbered n (command_in seed players port (n - 1))) (last + 1) (frame + 1 - last)
+    ∙ length-map-range_with_len (λ n. move_with_number n (command_in seed players port (n - 1))) (last + 1) (frame + 1 - last)
 
 -- ---- the last of them
 
 last-of-range : (f : ℕ → CmdBlock) (before a n : ℕ)
-    → last_in before (numbers_in (map (λ m. numbered m (f (m - 1))) (range_with_len a (suc n)))) ≡ a + n
+    → last_in before (numbers_in (map (λ m. move_with_number m (f (m - 1))) (range_with_len a (suc n)))) ≡ a + n
 last-of-range f before a zero = omega arith
 last-of-range f before a (suc n) = last-of-range f a (a + 1) n ∙ (let e : a + 1 + n ≡ a + suc n = omega arith in e)
 
@@ -151,7 +151,7 @@ commands-append seed players port a b zero n at =
     ap (λ k. commands_from seed players port k n) same ∙ ap (commands_from seed players port a) none
 commands-append seed players port a b (suc m) n at =
     let count : suc (m + n) ≡ suc m + n = omega arith in
-    ap (λ ms. numbered a (command_in seed players port (a - 1)) ∷ ms) (commands-append seed players port (a + 1) b m n (omega (arith, at)))
+    ap (λ ms. move_with_number a (command_in seed players port (a - 1)) ∷ ms) (commands-append seed players port (a + 1) b m n (omega (arith, at)))
     ∙ ap (commands_from seed players port a) count
 
 -- the commands that come in these frames
@@ -190,7 +190,7 @@ each-once seed players frames port some =
 
 -- ---- their numbers
 
-numbers-are : (f : ℕ → CmdBlock) (a n : ℕ) → numbers_in (map (λ m. numbered m (f (m - 1))) (range_with_len a n)) ≡ range_with_len a n
+numbers-are : (f : ℕ → CmdBlock) (a n : ℕ) → numbers_in (map (λ m. move_with_number m (f (m - 1))) (range_with_len a n)) ≡ range_with_len a n
 numbers-are f a zero = refl
 numbers-are f a (suc n) = ap (λ ns. a ∷ ns) (numbers-are f (a + 1) n)
 

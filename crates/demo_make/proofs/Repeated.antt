@@ -13,7 +13,7 @@ use Rattle.entity_recs.specs.Commands.{Command}
 use Rattle.entity_slots.specs.Ports.{AreSlots, port_at}
 use Rattle.entity_slots.proofs.Found.{found-only}
 use Rattle.packet_read.specs.declared.move_packet.MovePacket.{MovePacket}
-use Rattle.packet_read.specs.declared.packet.Packet.TheVariants.{Steps}
+use Rattle.packet_read.specs.declared.packet.Packet.TheVariants.{Moves}
 use Rattle.packet_read.specs.Commands.{commands_of}
 use Rattle.client_ports.specs.declared.client.Client.{Client}
 use Rattle.client_ports.specs.declared.client.LiveSlot.{LiveSlot}
@@ -21,7 +21,7 @@ use Rattle.client_ports.specs.Clients.{client, client_at, port_of, ports_of, liv
 use Rattle.client_ports.specs.States.{State, state_of, with_update}
 use Rattle.client_ports.specs.Lists.{no_lists, with_moves}
 use Rattle.client_ports.specs.NewMoves.{new_among}
-use Rattle.client_ports.specs.Answers.{move_answer, new_answer, moved}
+use Rattle.client_ports.specs.Answers.{move_answer, new_answer, with_new_moves}
 use Rattle.client_ports.specs.Receiving.{Receiving, receiving_of, after_move, after_packet, after_arrival, after_arrivals, command_in, received}
 use Rattle.client_ports.specs.Finishing.{finished_client, finished}
 use Rattle.client_ports.proofs.Slots.{port_at-client, read-set}
@@ -45,7 +45,7 @@ abbrev waiter : ℕ → ℕ → LiveSlot
 waiter slot last = live_slot slot (client (slot + 1) last false 0)
 
 abbrev mover : ℕ → ℕ → List MovePacket → LiveSlot
-mover slot last new = moved (waiter slot last) new
+mover slot last new = with_new_moves (waiter slot last) new
 
 -- the new commands of so many players were accepted in the frame, and the others have had none
 record AreHeard (players : ℕ) (last : ℕ → ℕ) (new : ℕ → List MovePacket) (heard : ℕ) (clients : List (Option Client)) : Type 0 where
@@ -162,26 +162,26 @@ module _ (seed players frames frame : ℕ) where
   -- a packet that arrives is answered: the next player is joined, and has new commands
   repeat-answered : (heard : ℕ) (clients : List (Option Client)) → Heard heard clients → heard < players
       → arrives frames frame (heard + 1) ≡ true
-      → move_answer clients (heard + 1) (commands_of (Steps (repeat_of seed players frame (heard + 1)))) ≡ Ok (waiter heard (last heard))
+      → move_answer clients (heard + 1) (commands_of (Moves (repeat_of seed players frame (heard + 1)))) ≡ Ok (waiter heard (last heard))
   repeat-answered heard clients are below come =
       let slots = are-slots players last new heard clients are in
       let there = found-only (ports_of clients) slots heard (heard + 1) (port-there players last new heard clients are heard below) in
-      let count : length (new_among (last heard) (commands_of (Steps (repeat_of seed players frame (heard + 1))))) ≡ frame + 1 - last heard =
+      let count : length (new_among (last heard) (commands_of (Moves (repeat_of seed players frame (heard + 1))))) ≡ frame + 1 - last heard =
       ap (λ (ms : List MovePacket). length ms) (packet-new seed players frames frame (heard + 1) come) ∙ new-length seed players frames frame (heard + 1) come in
       let low = last-low frames (heard + 1) frame in
       let high = last-high frames (heard + 1) frame in
       rw there (rw (are.waiting heard (omega arith) below)
-      (new-accepted heard (last heard) (length (new_among (last heard) (commands_of (Steps (repeat_of seed players frame (heard + 1)))))) (omega (arith, count, low)) (omega (arith, count, high))))
+      (new-accepted heard (last heard) (length (new_among (last heard) (commands_of (Moves (repeat_of seed players frame (heard + 1)))))) (omega (arith, count, low)) (omega (arith, count, high))))
 
   -- and its new commands are accepted
   repeat-accepted : (heard : ℕ) (r : Receiving) (place : ℕ) → Heard heard r.state.clients → heard < players → frame + 1 < 2 ^ 32
       → arrives frames frame (heard + 1) ≡ true
       → after_arrival generated_map frame r place (repeat_from seed players frame (heard + 1)) ≡ heard_in heard r
   repeat-accepted heard r place are below small come =
-      let steps = commands_of (Steps (repeat_of seed players frame (heard + 1))) in
+      let steps = commands_of (Moves (repeat_of seed players frame (heard + 1))) in
       ap (λ packet. after_packet generated_map frame packet r place (heard + 1)) (repeat-read seed players frame (heard + 1) small)
       ∙ ap (λ answer. after_move answer frame steps r place) (repeat-answered heard r.state.clients are below come)
-      ∙ ap (λ ms. receiving_of (with_update r.state (moved (waiter heard (last heard)) ms)) (with_moves r.lists (map (command_in frame heard) ms)))
+      ∙ ap (λ ms. receiving_of (with_update r.state (with_new_moves (waiter heard (last heard)) ms)) (with_moves r.lists (map (command_in frame heard) ms)))
       (packet-new seed players frames frame (heard + 1) come)
 
   -- so are those of the players after it, one after another; nothing comes of a packet that is lost

@@ -6,9 +6,9 @@ use Rattle.std.proofs.Math.Nat.{min-le_left, min-le_right, le-min}
 use Rattle.std.proofs.lemmas.Int.{ints}
 use Rattle.std.proofs.lemmas.List.Elements.{All-map}
 use Rattle.std.proofs.lemmas.List.FromFn.{length-map-range_with_len}
-use Rattle.packet_read.specs.declared.packet.Packet.TheVariants.{Steps}
+use Rattle.packet_read.specs.declared.packet.Packet.TheVariants.{Moves}
 use Rattle.packet_read.specs.Reading.{reading}
-use Rattle.packet_read.specs.Spelling.{IsAllowedBlock, IsAllowedSteps, BlockFits, StepsFit}
+use Rattle.packet_read.specs.Spelling.{IsAllowedBlock, IsAllowedMoves, BlockFits, MovesFit}
 use Rattle.packet_read.proofs.Again.{packet_again}
 use Rattle.demo_make.specs.GeneratedFrames.{wish_of, command_of}
 use Rattle.demo_make.specs.ResentFrames.{command_in, how_many_in, last_commands, repeat_from}
@@ -54,7 +54,7 @@ commands-length seed players frame port =
 
 -- ---- a packet
 
-pub steps-allowed : (seed players frame port : ℕ) → IsAllowedSteps (repeat_of seed players frame port)
+pub steps-allowed : (seed players frame port : ℕ) → IsAllowedMoves (repeat_of seed players frame port)
 steps-allowed seed players frame port = record {
   some = omega (arith, commands-length seed players frame port, many-some frame);
   few = omega (arith, commands-length seed players frame port, many-few frame);
@@ -64,7 +64,7 @@ steps-allowed seed players frame port = record {
       (λ n _ _. block-allowed _));
 }
 
-steps-fit : (seed players frame port : ℕ) → frame + 1 < 2 ^ 32 → StepsFit (repeat_of seed players frame port)
+steps-fit : (seed players frame port : ℕ) → frame + 1 < 2 ^ 32 → MovesFit (repeat_of seed players frame port)
 steps-fit seed players frame port few = record {
   seq = few;
   blocks = blocks-fit seed players frame port;
@@ -78,9 +78,9 @@ steps-fit seed players frame port few = record {
 
 -- a packet with commands is read as it was written
 pub repeat-read : (seed players frame port : ℕ) → frame + 1 < 2 ^ 32
-    → reading (repeat_from seed players frame port).bytes ≡ Ok (Steps (repeat_of seed players frame port))
+    → reading (repeat_from seed players frame port).bytes ≡ Ok (Moves (repeat_of seed players frame port))
 repeat-read seed players frame port few =
-    packet_again (Steps (repeat_of seed players frame port)) (steps-fit seed players frame port few) (steps-allowed seed players frame port)
+    packet_again (Moves (repeat_of seed players frame port)) (steps-fit seed players frame port few) (steps-allowed seed players frame port)
 
 pub packets_are_read : PacketsAreRead
 packets_are_read = record { joins = join-read; moves = move-read; repeats = repeat-read }

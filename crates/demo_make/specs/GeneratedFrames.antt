@@ -5,9 +5,9 @@ use Rattle.std.specs.List.{range_with_len}
 use Rattle.arena_map.specs.declared.limits.TheConstants.{MOST_FRAMES}
 use Rattle.packet_read.specs.declared.block_list.CmdBlock.{CmdBlock}
 use Rattle.packet_read.specs.declared.move_packet.MovePacket.{MovePacket}
-use Rattle.packet_read.specs.declared.packet.Packet.TheVariants.{Join, Step}
+use Rattle.packet_read.specs.declared.packet.Packet.TheVariants.{Join, Move}
 use Rattle.packet_read.specs.Spelling.{spelling}
-use Rattle.packet_read.specs.Commands.{numbered}
+use Rattle.packet_read.specs.Commands.{move_with_number}
 use Rattle.packet_read.specs.declared.arrival.Arrival.{Arrival}
 use Rattle.demo_lines.specs.declared.event.Event.{Event}
 use Rattle.demo_lines.specs.Spelling.{recording_text, recording_events}
@@ -38,7 +38,7 @@ command_of word = record {
 
 -- the move that a word gives, with this sequence number
 abbrev pub move_of : ℕ → ℕ → MovePacket
-move_of seq word = numbered seq (command_of word)
+move_of seq word = move_with_number seq (command_of word)
 
 -- a packet with these bytes from a port
 abbrev pub arrival : ℕ → List ℕ → Arrival
@@ -49,7 +49,7 @@ abbrev pub join_from : ℕ → Arrival
 join_from port = arrival port (spelling Join)
 
 abbrev pub move_from : ℕ → ℕ → ℕ → Arrival
-move_from seq port word = arrival port (spelling (Step (move_of seq word)))
+move_from seq port word = arrival port (spelling (Move (move_of seq word)))
 
 -- ---- the frames
 

@@ -4,7 +4,7 @@ use Rattle.std.specs.List.{range_with_len}
 use Rattle.std.specs.Int.{w64, from_le_bytes, to_le_bytes}
 use Rattle.rand_core.specs.Steps.{first_words}
 use Rattle.rand_xoshiro.specs.SplitMix64.{mix_u64}
-use Rattle.packet_read.specs.declared.packet.Packet.TheVariants.{Join, Step, Steps}
+use Rattle.packet_read.specs.declared.packet.Packet.TheVariants.{Join, Move, Moves}
 use Rattle.packet_read.specs.Reading.{reading}
 use Rattle.arena_map.specs.declared.limits.TheConstants.{DEFAULT_DEPTH}
 use Rattle.arena_map.specs.Maps.{IsMap}
@@ -81,9 +81,9 @@ ResentTextsAreBounded =
 pub record PacketsAreRead : Type 0 where
   pub joins : (port : ℕ) → reading (join_from port).bytes ≡ Ok Join
   pub moves : (seq port word : ℕ) → seq < 2 ^ 32
-      → reading (move_from seq port word).bytes ≡ Ok (Step (move_of seq word))
+      → reading (move_from seq port word).bytes ≡ Ok (Move (move_of seq word))
   pub repeats : (seed players frame port : ℕ) → frame + 1 < 2 ^ 32
-      → reading (repeat_from seed players frame port).bytes ≡ Ok (Steps (repeat_of seed players frame port))
+      → reading (repeat_from seed players frame port).bytes ≡ Ok (Moves (repeat_of seed players frame port))
 
 -- the words of a seed are those of SplitMix64 from the state that the seed's 8 bytes give, lowest first; two published
 -- ones are these

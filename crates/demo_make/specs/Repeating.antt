@@ -7,7 +7,7 @@ use Rattle.entity_recs.specs.declared.limits.TheConstants.{IDS}
 use Rattle.entity_recs.specs.declared.rec.Rec.{Rec}
 use Rattle.entity_recs.specs.Commands.{Command}
 use Rattle.packet_read.specs.declared.move_packet.MovePacket.{MovePacket}
-use Rattle.packet_read.specs.Commands.{numbered}
+use Rattle.packet_read.specs.Commands.{move_with_number}
 use Rattle.client_ports.specs.declared.received.Joined.{Joined}
 use Rattle.client_ports.specs.States.{State, state_of}
 use Rattle.client_ports.specs.Receiving.{Receiving, received}
@@ -28,7 +28,7 @@ last_before frames port (suc frame) = if arrives frames frame port then frame + 
 -- so many commands of a player, from this number on
 abbrev pub commands_from : ℕ → ℕ → ℕ → ℕ → ℕ → List MovePacket
 commands_from seed players port first count =
-    map (λ n. numbered n (command_in seed players port (n - 1))) (range_with_len first count)
+    map (λ n. move_with_number n (command_in seed players port (n - 1))) (range_with_len first count)
 
 -- the commands of a player that come in a frame: where its packet arrives all those that didn't come before, up to that
 -- of the frame, and else none

@@ -2,8 +2,8 @@
 use Rattle.std.specs.Prelude.{ℕ, ◌+◌, ◌-◌, ◌*◌, ◌%◌, ◌==◌, ◌||◌, Bool, List, ◌++◌, map, filter, min}
 use Rattle.std.specs.List.{range_with_len}
 use Rattle.packet_read.specs.declared.block_list.CmdBlock.{CmdBlock}
-use Rattle.packet_read.specs.declared.steps_packet.StepsPacket.{StepsPacket}
-use Rattle.packet_read.specs.declared.packet.Packet.TheVariants.{Steps}
+use Rattle.packet_read.specs.declared.moves_packet.MovesPacket.{MovesPacket}
+use Rattle.packet_read.specs.declared.packet.Packet.TheVariants.{Moves}
 use Rattle.packet_read.specs.Spelling.{spelling}
 use Rattle.packet_read.specs.declared.arrival.Arrival.{Arrival}
 use Rattle.demo_lines.specs.declared.event.Event.{Event}
@@ -28,12 +28,12 @@ last_commands seed players frame port =
     map (command_in seed players port) (range_with_len (frame + 1 - how_many_in frame) (how_many_in frame))
 
 -- those commands, of which the newest has a number one more than that of the frame
-abbrev pub repeat_of : ℕ → ℕ → ℕ → ℕ → StepsPacket
+abbrev pub repeat_of : ℕ → ℕ → ℕ → ℕ → MovesPacket
 repeat_of seed players frame port = record { seq = frame + 1; cmds = last_commands seed players frame port }
 
 -- the packet of a player in a frame, which has them
 abbrev pub repeat_from : ℕ → ℕ → ℕ → ℕ → Arrival
-repeat_from seed players frame port = arrival port (spelling (Steps (repeat_of seed players frame port)))
+repeat_from seed players frame port = arrival port (spelling (Moves (repeat_of seed players frame port)))
 
 -- ---- the frames
 

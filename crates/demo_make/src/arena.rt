@@ -8,7 +8,7 @@ use arena_map::{ArenaMap, MapRefusal};
 use std::alloc::{AllocError, Global};
 
 /// What an answer of the map is where no rule is broken.
-fn unbroken<T>(answer: Result<T, MapRefusal>) -> Result<T, AllocError>
+fn value_or_no_memory<T>(answer: Result<T, MapRefusal>) -> Result<T, AllocError>
     requires { ForErr answer (λ refusal. refusal ≡ NoMemory) }
     ensures { IfOk result (λ value. answer ≡ Ok value) }
 {
@@ -22,9 +22,9 @@ fn unbroken<T>(answer: Result<T, MapRefusal>) -> Result<T, AllocError>
 pub fn generated_map(alloc: Global) -> Result<ArenaMap, AllocError>
     ensures { IfOk result (λ map. map ≡ made.generated_map) }
 {
-    let mut map = unbroken(ArenaMap::new(alloc, &map_line(0)))?;
+    let mut map = value_or_no_memory(ArenaMap::new(alloc, &map_line(0)))?;
     for index in 1..MAP_LINES {
-        unbroken(map.add(&map_line(index)))?;
+        value_or_no_memory(map.add(&map_line(index)))?;
     }
     Ok(map)
 }

@@ -7,7 +7,7 @@ use crate::generated_event::GeneratedEvent;
 use crate::last_words::{LastWords, next_word_if};
 use crate::moves::{arrives, drawn_move, last_commands};
 use crate::sending::Sending;
-use packet_read::{Packet, StepsPacket, write_packet};
+use packet_read::{Packet, MovesPacket, write_packet};
 use rand_xoshiro::SplitMix64;
 use rand_xoshiro::rand_core::SeedableRng;
 use rand_xoshiro::rand_core::utils::NextWord;
@@ -75,7 +75,7 @@ impl Generator {
 
     /// A generator before its first event, where each packet repeats the two commands before its own, and one of three
     /// arrives. The recording has 1 to 64 players and 1 to 100,000 frames.
-    pub fn resending(seed: u64, players: u8, frames: u32) -> Generator
+    pub fn with_resends(seed: u64, players: u8, frames: u32) -> Generator
         requires { IsInRange players frames }
         ensures { remaining_events result ≡ resent_events seed players frames }
     {
@@ -135,7 +135,7 @@ impl Generator {
         let word = self.words.next_word();
         GeneratedEvent::From {
             port,
-            bytes: write_packet(&Packet::Step(drawn_move(self.opened, word))),
+            bytes: write_packet(&Packet::Move(drawn_move(self.opened, word))),
         }
     }
 
@@ -165,13 +165,13 @@ impl Generator {
         ensures { remaining_events self.old ≡ event_of result ∷ remaining_events self.new }
     {
         let port = self.sender();
-        let packet = StepsPacket {
+        let packet = MovesPacket {
             seq: self.opened,
             cmds: last_commands(&self.draw()),
         };
         GeneratedEvent::From {
             port,
-            bytes: write_packet(&Packet::Steps(packet)),
+            bytes: write_packet(&Packet::Moves(packet)),
         }
     }
 

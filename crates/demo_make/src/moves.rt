@@ -36,7 +36,7 @@ fn drawn_command(word: u64) -> CmdBlock
 pub fn drawn_move(seq: u32, word: u64) -> MovePacket
     ensures { result ≡ frames.move_of seq word }
 {
-    drawn_command(word).numbered(seq)
+    drawn_command(word).move_with_number(seq)
 }
 
 /// Puts the command that a word gives last, where there is a word.

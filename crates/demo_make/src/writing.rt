@@ -21,7 +21,7 @@ fn make_room<K: Sink>(sink: &mut K, text: &mut LineBuf) -> Result<(), Failed>
     ensures err { OnErr result (AppendsPart (K.taken sink.old) (K.taken sink.new) text.old) }
 
     ensures later { K.faults sink.old ≤ K.faults sink.new }
-    ensures cause { OnErr result (HasRisen (K.faults sink.old) (K.faults sink.new)) }
+    ensures fault { OnErr result (HasRisen (K.faults sink.old) (K.faults sink.new)) }
     ensures uncounted { OnOk result (K.faults sink.new ≡ K.faults sink.old) }
     ensures sure { length text.old ≤ K.room sink.old → IsOk result }
     ensures room { OnOk result (K.room sink.old + length text.new ≤ K.room sink.new + length text.old) }
@@ -41,7 +41,7 @@ fn write_events<K: Sink>(sink: &mut K, text: &mut LineBuf, events: Generator) ->
         (AppendsPart (K.taken sink.old) (K.taken sink.new) (text.old ++ events_text (remaining_events events))) }
 
     ensures later { K.faults sink.old ≤ K.faults sink.new }
-    ensures cause { OnErr result (HasRisen (K.faults sink.old) (K.faults sink.new)) }
+    ensures fault { OnErr result (HasRisen (K.faults sink.old) (K.faults sink.new)) }
     ensures uncounted { OnOk result (K.faults sink.new ≡ K.faults sink.old) }
     ensures sure { length (text.old ++ events_text (remaining_events events)) ≤ K.room sink.old → IsOk result }
     ensures room { OnOk result (K.room sink.old
@@ -63,7 +63,7 @@ fn write_recording<K: Sink>(alloc: Global, events: Generator, sink: &mut K) -> R
     ensures no_memory { result ≡ Err NoMemory → sink.new ≡ sink.old }
 
     ensures later { K.faults sink.old ≤ K.faults sink.new }
-    ensures cause { result ≡ Err WriteFault → HasRisen (K.faults sink.old) (K.faults sink.new) }
+    ensures fault { result ≡ Err WriteFault → HasRisen (K.faults sink.old) (K.faults sink.new) }
     ensures uncounted { OnOk result (K.faults sink.new ≡ K.faults sink.old) }
     ensures sure { length (text_with (remaining_events events)) ≤ K.room sink.old → result ≢ Err WriteFault }
     ensures room { OnOk result (K.room sink.old ≤ K.room sink.new + length (text_with (remaining_events events))) }
@@ -95,7 +95,7 @@ pub fn make<K: Sink>(
     ensures no_memory { result ≡ Err NoMemory → sink.new ≡ sink.old }
 
     ensures later { K.faults sink.old ≤ K.faults sink.new }
-    ensures cause { result ≡ Err WriteFault → HasRisen (K.faults sink.old) (K.faults sink.new) }
+    ensures fault { result ≡ Err WriteFault → HasRisen (K.faults sink.old) (K.faults sink.new) }
     ensures uncounted { OnOk result (K.faults sink.new ≡ K.faults sink.old) }
     ensures sure { length (generated_text seed players frames) ≤ K.room sink.old → result ≢ Err WriteFault }
     ensures room { OnOk result (K.room sink.old ≤ K.room sink.new + length (generated_text seed players frames)) }
@@ -122,10 +122,10 @@ pub fn resend<K: Sink>(
     ensures no_memory { result ≡ Err NoMemory → sink.new ≡ sink.old }
 
     ensures later { K.faults sink.old ≤ K.faults sink.new }
-    ensures cause { result ≡ Err WriteFault → HasRisen (K.faults sink.old) (K.faults sink.new) }
+    ensures fault { result ≡ Err WriteFault → HasRisen (K.faults sink.old) (K.faults sink.new) }
     ensures uncounted { OnOk result (K.faults sink.new ≡ K.faults sink.old) }
     ensures sure { length (resent_text seed players frames) ≤ K.room sink.old → result ≢ Err WriteFault }
     ensures room { OnOk result (K.room sink.old ≤ K.room sink.new + length (resent_text seed players frames)) }
 {
-    write_recording(alloc, Generator::resending(seed, players, frames), sink)
+    write_recording(alloc, Generator::with_resends(seed, players, frames), sink)
 }

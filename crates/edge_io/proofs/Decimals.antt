@@ -7,7 +7,7 @@ use Rattle.std.proofs.lemmas.Fmt.{decimal_digit, first_decimal, decimal_nonempty
 use Rattle.std.proofs.lemmas.Bool.Decides.{nat_tests}
 use Rattle.std.proofs.lemmas.Slice.Eq.{bytes_eq-Decides}
 use Rattle.std.proofs.lemmas.Bool.{and_parts, not-true}
-use Rattle.edge_io.specs.Numbers.{is_digit, digits_up_to, natural_up_to, integer_up_to, negated, are_digits, is_natural, is_integer}
+use Rattle.edge_io.specs.Numbers.{is_digit, digits_up_to, natural_up_to, integer_up_to, negative_of, are_digits, is_natural, is_integer}
 use Rattle.edge_io.specs.Laws.{IsReadWithin, IntegersHaveForm}
 
 -- the number of the digits of n and then these
@@ -108,7 +108,7 @@ natural-decimal limit n small h =
 
 -- ---- numbers below 0
 
-negated-spelled : (limit : ℕ) (z : ℤ) (ds : List ℕ) (read : Option ℕ) → limit < 2 ^ 64 → natural_up_to limit ds ≡ read → negated read ≡ Some z
+negated-spelled : (limit : ℕ) (z : ℤ) (ds : List ℕ) (read : Option ℕ) → limit < 2 ^ 64 → natural_up_to limit ds ≡ read → negative_of read ≡ Some z
     → (45 ∷ ds ≡ signed_decimal z) × (unsigned_abs z ≤ limit)
 negated-spelled limit z ds None low is e = cc
 negated-spelled limit z ds (Some zero) low is e = cc
@@ -131,7 +131,7 @@ pub integer-spelled : (limit : ℕ) (z : ℤ) (field : List ℕ) → limit < 2 ^
 integer-spelled limit z [] low e = cc
 integer-spelled limit z (b ∷ bs) low e = by_sign (b == 45) refl e
   where
-    by_sign : (s : Bool) → (b == 45) ≡ s → cond s (negated (natural_up_to limit bs)) (option_map pos (natural_up_to limit (b ∷ bs))) ≡ Some z
+    by_sign : (s : Bool) → (b == 45) ≡ s → cond s (negative_of (natural_up_to limit bs)) (option_map pos (natural_up_to limit (b ∷ bs))) ≡ Some z
         → (b ∷ bs ≡ signed_decimal z) × (unsigned_abs z ≤ limit)
     by_sign true is e =
         let minus : b ≡ 45 = grind (arith, nat_tests) in
@@ -144,7 +144,7 @@ integer-natural : (limit n : ℕ) (ds : List ℕ) → 48 ≤ get_or ds 0 0 → n
 integer-natural limit n [] high e = cc
 integer-natural limit n (d ∷ ds) high e =
     let other : (d == 45) ≡ false = grind (arith, nat_tests) in
-    ap (λ b. cond b (negated (natural_up_to limit ds)) (option_map pos (natural_up_to limit (d ∷ ds)))) other ∙ ap (option_map pos) e
+    ap (λ b. cond b (negative_of (natural_up_to limit ds)) (option_map pos (natural_up_to limit (d ∷ ds)))) other ∙ ap (option_map pos) e
 
 begins_with_digit : (n : ℕ) → ((decimal n ≡ 48 ∷ []) ⊎ (48 < get_or (decimal n) 0 0)) → 48 ≤ get_or (decimal n) 0 0
 begins_with_digit n (inl is) = let first : get_or (decimal n) 0 0 ≡ 48 = ap (λ ds. get_or ds 0 0) is in omega arith
@@ -153,7 +153,7 @@ begins_with_digit n (inr high) = omega arith
 pub integer-decimal : (limit : ℕ) (z : ℤ) → unsigned_abs z < 2 ^ 64 → unsigned_abs z ≤ limit → integer_up_to limit (signed_decimal z) ≡ Some z
 integer-decimal limit (pos n) small h =
     integer-natural limit n (decimal n) (begins_with_digit n (first_of_decimal n small)) (natural-decimal limit n small h)
-integer-decimal limit (negsuc n) small h = ap negated (natural-decimal limit (suc n) small h)
+integer-decimal limit (negsuc n) small h = ap negative_of (natural-decimal limit (suc n) small h)
 
 -- ---- numbers of any size
 
@@ -185,7 +185,7 @@ not_zero limit n field true is e =
     let value : 0 ≡ suc n = spells.value in
     absurd (omega (arith, value))
 
-negated-form : (limit : ℕ) (z : ℤ) (ds : List ℕ) (read : Option ℕ) → natural_up_to limit ds ≡ read → negated read ≡ Some z
+negated-form : (limit : ℕ) (z : ℤ) (ds : List ℕ) (read : Option ℕ) → natural_up_to limit ds ≡ read → negative_of read ≡ Some z
     → (is_natural ds && not (bytes_eq ds (codes "0"))) ≡ true
 negated-form limit z ds None is e = cc
 negated-form limit z ds (Some zero) is e = cc
@@ -201,7 +201,7 @@ pub integer-form : (limit : ℕ) (z : ℤ) (field : List ℕ) → integer_up_to 
 integer-form limit z [] e = cc
 integer-form limit z (b ∷ bs) e = by_sign (b == 45) refl e
   where
-    by_sign : (s : Bool) → (b == 45) ≡ s → cond s (negated (natural_up_to limit bs)) (option_map pos (natural_up_to limit (b ∷ bs))) ≡ Some z → is_integer (b ∷ bs) ≡ true
+    by_sign : (s : Bool) → (b == 45) ≡ s → cond s (negative_of (natural_up_to limit bs)) (option_map pos (natural_up_to limit (b ∷ bs))) ≡ Some z → is_integer (b ∷ bs) ≡ true
     by_sign true is e =
         ap (λ s. cond s (is_natural bs && not (bytes_eq bs (codes "0"))) (is_natural (b ∷ bs))) is
         ∙ negated-form limit z bs (natural_up_to limit bs) refl e
@@ -255,7 +255,7 @@ natural-read : (ds : List ℕ) (b : ℕ) → (b == 45) ≡ false → is_natural 
 natural-read ds b other h = record {
   limit = read_on 0 (b ∷ ds);
   number = pos (read_on 0 (b ∷ ds));
-  read = ap (λ s. cond s (negated (natural_up_to (read_on 0 (b ∷ ds)) ds)) (option_map pos (natural_up_to (read_on 0 (b ∷ ds)) (b ∷ ds)))) other
+  read = ap (λ s. cond s (negative_of (natural_up_to (read_on 0 (b ∷ ds)) ds)) (option_map pos (natural_up_to (read_on 0 (b ∷ ds)) (b ∷ ds)))) other
       ∙ ap (option_map pos) (natural-within (b ∷ ds) h);
 }
 
@@ -264,7 +264,7 @@ minus-read ds b zero minus e some = absurd (omega (arith, some))
 minus-read ds b (suc m) minus e some = record {
   limit = suc m;
   number = negsuc m;
-  read = ap (λ s. cond s (negated (natural_up_to (suc m) ds)) (option_map pos (natural_up_to (suc m) (b ∷ ds)))) minus ∙ ap negated e;
+  read = ap (λ s. cond s (negative_of (natural_up_to (suc m) ds)) (option_map pos (natural_up_to (suc m) (b ∷ ds)))) minus ∙ ap negative_of e;
 }
 
 pub integer-within : (field : List ℕ) → is_integer field ≡ true → IsReadWithin field

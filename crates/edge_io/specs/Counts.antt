@@ -12,5 +12,5 @@ HasRisen old new = min (old + 1) (2 ^ 64 - 1) ≤ new
 -- a call that gave this counted its faults: the count rose where it failed, and is as it was where it succeeded
 pub record CountsFaults {T E : Type 0} (old new : ℕ) (result : Result T E) : Type 0 where
   pub later : old ≤ new
-  pub cause : OnErr result (HasRisen old new)
+  pub fault : OnErr result (HasRisen old new)
   pub uncounted : OnOk result (new ≡ old)

@@ -20,16 +20,16 @@ natural_up_to limit (d ∷ []) = digits_up_to limit 0 (d ∷ [])
 natural_up_to limit (d ∷ e ∷ ds) = if d == 48 then None else digits_up_to limit 0 (d ∷ e ∷ ds)
 
 -- the number below 0 that is as far from it; 0 has no sign
-abbrev pub negated : Option ℕ → Option ℤ
-negated None = None
-negated (Some zero) = None
-negated (Some (suc n)) = Some (negsuc n)
+abbrev pub negative_of : Option ℕ → Option ℤ
+negative_of None = None
+negative_of (Some zero) = None
+negative_of (Some (suc n)) = Some (negsuc n)
 
 -- a number of at most limit, or a minus and one that isn't 0
 abbrev pub integer_up_to : ℕ → List ℕ → Option ℤ
 integer_up_to limit [] = None
 integer_up_to limit (b ∷ bs) =
-    if b == 45 then negated (natural_up_to limit bs) else option_map pos (natural_up_to limit (b ∷ bs))
+    if b == 45 then negative_of (natural_up_to limit bs) else option_map pos (natural_up_to limit (b ∷ bs))
 
 -- each byte is a decimal digit
 abbrev pub are_digits : List ℕ → Bool

@@ -47,7 +47,7 @@ pub fn integer(field: &[u8], limit: u32) -> Option<i64>
 /// The number as far below 0. There is none for 0, which has no sign.
 fn below_zero(value: u64) -> Option<i64>
     requires { value < 2 ^ 32 }
-    ensures value { result ≡ numbers.negated (Some value) }
+    ensures value { result ≡ numbers.negative_of (Some value) }
     ensures bound { IfSome result (λ z. unsigned_abs z ≡ value) }
 {
     if value == 0 {

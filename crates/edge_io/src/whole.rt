@@ -16,7 +16,7 @@ pub fn write_whole<K: Sink>(sink: &mut K, bytes: &[u8]) -> Result<(), Failed>
     ensures empty { length bytes.now ≡ 0 → IsOk result × (sink.new ≡ sink.old) }
 
     ensures later { K.faults sink.old ≤ K.faults sink.new }
-    ensures cause { OnErr result (HasRisen (K.faults sink.old) (K.faults sink.new)) }
+    ensures fault { OnErr result (HasRisen (K.faults sink.old) (K.faults sink.new)) }
     ensures uncounted { OnOk result (K.faults sink.new ≡ K.faults sink.old) }
     ensures sure { length bytes.now ≤ K.room sink.old → IsOk result }
     ensures room { OnOk result (K.room sink.old ≤ K.room sink.new + length bytes.now) }

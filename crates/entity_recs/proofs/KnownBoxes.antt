@@ -3,13 +3,13 @@ use Rattle.std.proofs.Common.{◌≡◌, ◌≢◌, inl, inr, refl, ap}
 use Rattle.arena_geo.specs.declared.vec3.Vec3.{Vec3}
 use Rattle.arena_geo.specs.Vectors.{zero_vector, plus}
 use Rattle.arena_geo.specs.Bounds.{Bounds, bounds}
-use Rattle.arena_geo.specs.Boxes.{grown}
+use Rattle.arena_geo.specs.Boxes.{box_grown_by}
 use Rattle.arena_geo.proofs.Vectors.{plus-zero_vector}
 use Rattle.entity_recs.specs.declared.kind.Kind.{Kind}
 use Rattle.entity_recs.specs.declared.kind.Kind.TheVariants.{Player, Ammo, Gem, Teleporter, Goal, Lift}
 use Rattle.entity_recs.specs.declared.bodies.TheConstants.{PLAYER_MINS, PLAYER_MAXS, ITEM_MAXS, GROWTH, ITEM_GROWTH}
 use Rattle.entity_recs.specs.Records.{HasCorners, IsShapeOf}
-use Rattle.entity_recs.specs.Bodies.{standing, growth_of, body_of}
+use Rattle.entity_recs.specs.Bodies.{box_at_origin, growth_of, body_of}
 use Rattle.entity_recs.specs.Laws.{IsItem, IsLargerBy, BoxesAreKnown}
 
 -- ---- absolute boxes
@@ -25,17 +25,17 @@ other_growth Teleporter not_ammo not_gem = refl
 other_growth Goal not_ammo not_gem = refl
 other_growth Lift not_ammo not_gem = refl
 
-grown_by : (b : Bounds) (growth by : Vec3) → growth ≡ by → IsLargerBy by (grown b growth) b
+grown_by : (b : Bounds) (growth by : Vec3) → growth ≡ by → IsLargerBy by (box_grown_by b growth) b
 grown_by b growth by is = rw is (record { low = refl; high = refl })
 
 -- ---- bodies
 
 at_corners : (origin mins maxs low high : Vec3) → HasCorners low high mins maxs
-    → standing origin mins maxs ≡ bounds (plus origin low) (plus origin high)
+    → box_at_origin origin mins maxs ≡ bounds (plus origin low) (plus origin high)
 at_corners origin mins maxs low high are = rw (are.low_is, are.high_is) refl
 
 from_origin : (origin mins maxs high : Vec3) → mins ≡ zero_vector → maxs ≡ high
-    → standing origin mins maxs ≡ bounds origin (plus origin high)
+    → box_at_origin origin mins maxs ≡ bounds origin (plus origin high)
 from_origin origin mins maxs high low_is high_is =
     rw (low_is, high_is) (ap (λ (v : Vec3). bounds v (plus origin high)) (plus-zero_vector origin))
 
@@ -49,7 +49,7 @@ player_corners Goal origin mins maxs is shape = cc
 player_corners Lift origin mins maxs is shape = cc
 
 item_body : (kind : Kind) (origin mins maxs : Vec3) → IsItem kind → IsShapeOf kind origin mins maxs
-    → standing origin mins maxs ≡ bounds origin (plus origin ITEM_MAXS)
+    → box_at_origin origin mins maxs ≡ bounds origin (plus origin ITEM_MAXS)
 item_body Player origin mins maxs (inl is) shape = cc
 item_body Player origin mins maxs (inr is) shape = cc
 item_body Ammo origin mins maxs is shape = from_origin origin mins maxs ITEM_MAXS shape.low_is shape.high_is
@@ -62,7 +62,7 @@ item_body Lift origin mins maxs (inl is) shape = cc
 item_body Lift origin mins maxs (inr is) shape = cc
 
 other_body : (kind : Kind) (origin mins maxs : Vec3) → kind ≢ Player → kind ≢ Ammo → kind ≢ Gem
-    → IsShapeOf kind origin mins maxs → standing origin mins maxs ≡ bounds origin (plus origin maxs)
+    → IsShapeOf kind origin mins maxs → box_at_origin origin mins maxs ≡ bounds origin (plus origin maxs)
 other_body Player origin mins maxs not_player not_ammo not_gem shape = absurd (not_player refl)
 other_body Ammo origin mins maxs not_player not_ammo not_gem shape = absurd (not_ammo refl)
 other_body Gem origin mins maxs not_player not_ammo not_gem shape = absurd (not_gem refl)

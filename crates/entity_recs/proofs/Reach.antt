@@ -4,7 +4,7 @@ use Rattle.std.proofs.Common.{refl, sym, ap, ◌∙◌, inl, inr, arith}
 use Rattle.std.proofs.lemmas.Int.{ints}
 use Rattle.arena_geo.specs.declared.vec3.Vec3.{Vec3}
 use Rattle.arena_geo.specs.Bounds.{Bounds}
-use Rattle.arena_geo.specs.Boxes.{touches_on, touches, grown}
+use Rattle.arena_geo.specs.Boxes.{touches_on, touches, box_grown_by}
 use Rattle.arena_geo.proofs.Containment.{three_pass, all_three}
 use Rattle.entity_recs.specs.declared.kind.Kind.{Kind}
 use Rattle.entity_recs.specs.declared.kind.Kind.TheVariants.{Player, Ammo, Gem, Teleporter, Goal, Lift}
@@ -69,7 +69,7 @@ place_upright_back o l h close =
 
 -- ---- all axes
 
-item_within : (o : Vec3) (b : Bounds) → touches (grown b ITEM_GROWTH) (grown (player_body o) GROWTH) ≡ true
+item_within : (o : Vec3) (b : Bounds) → touches (box_grown_by b ITEM_GROWTH) (box_grown_by (player_body o) GROWTH) ≡ true
     → ComesWithin (pos 8192) (pos 6400) (pos 8448) o b
 item_within o b touch =
     let t = three_pass _ _ _ touch in
@@ -79,14 +79,14 @@ item_within o b touch =
     record { low_x = x.low; high_x = x.high; low_y = y.low; high_y = y.high; low_z = z.low; high_z = z.high }
 
 item_touches : (o : Vec3) (b : Bounds) → ComesWithin (pos 8192) (pos 6400) (pos 8448) o b
-    → touches (grown b ITEM_GROWTH) (grown (player_body o) GROWTH) ≡ true
+    → touches (box_grown_by b ITEM_GROWTH) (box_grown_by (player_body o) GROWTH) ≡ true
 item_touches o b within =
     all_three
     (item_beside_back o.x b.lo.x b.hi.x (record { low = within.low_x; high = within.high_x }))
     (item_beside_back o.y b.lo.y b.hi.y (record { low = within.low_y; high = within.high_y }))
     (item_upright_back o.z b.lo.z b.hi.z (record { low = within.low_z; high = within.high_z }))
 
-place_within : (o : Vec3) (b : Bounds) → touches (grown b GROWTH) (grown (player_body o) GROWTH) ≡ true
+place_within : (o : Vec3) (b : Bounds) → touches (box_grown_by b GROWTH) (box_grown_by (player_body o) GROWTH) ≡ true
     → ComesWithin (pos 4608) (pos 6656) (pos 8704) o b
 place_within o b touch =
     let t = three_pass _ _ _ touch in
@@ -96,7 +96,7 @@ place_within o b touch =
     record { low_x = x.low; high_x = x.high; low_y = y.low; high_y = y.high; low_z = z.low; high_z = z.high }
 
 place_touches : (o : Vec3) (b : Bounds) → ComesWithin (pos 4608) (pos 6656) (pos 8704) o b
-    → touches (grown b GROWTH) (grown (player_body o) GROWTH) ≡ true
+    → touches (box_grown_by b GROWTH) (box_grown_by (player_body o) GROWTH) ≡ true
 place_touches o b within =
     all_three
     (place_beside_back o.x b.lo.x b.hi.x (record { low = within.low_x; high = within.high_x }))
@@ -106,14 +106,14 @@ place_touches o b within =
 -- ---- a record of each kind
 
 -- the absolute box of a player, of its origin
-abs_of_player : (me : Rec) → IsRecord me → me.kind ≡ Player → abs_of me ≡ grown (player_body me.origin) GROWTH
+abs_of_player : (me : Rec) → IsRecord me → me.kind ≡ Player → abs_of me ≡ box_grown_by (player_body me.origin) GROWTH
 abs_of_player me within is =
     let shape = player_shape me within is in
     rw (shape.low_is, shape.high_is, is) refl
 
 -- the test, of a kind and a body
 abbrev is_touched_at : Vec3 → Kind → Bounds → Bool
-is_touched_at o kind body = not (is_solid kind) && touches (grown body (growth_of kind)) (grown (player_body o) GROWTH)
+is_touched_at o kind body = not (is_solid kind) && touches (box_grown_by body (growth_of kind)) (box_grown_by (player_body o) GROWTH)
 
 in_reach : (o : Vec3) (r : Rec) (kind : Kind) → r.kind ≡ kind → is_touched_at o kind (body_of r) ≡ true → IsInReach o r
 in_reach o r Player is touch = cc

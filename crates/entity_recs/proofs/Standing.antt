@@ -4,14 +4,14 @@ use Rattle.std.proofs.lemmas.Int.{ints}
 use Rattle.arena_geo.specs.declared.vec3.Vec3.{Vec3}
 use Rattle.arena_geo.specs.Vectors.{IsNear, IsNotNegative, plus}
 use Rattle.arena_geo.specs.Bounds.{Bounds, IsOrdered, IsBox}
-use Rattle.arena_geo.specs.Boxes.{contains_on, contains, grown}
+use Rattle.arena_geo.specs.Boxes.{contains_on, contains, box_grown_by}
 use Rattle.arena_geo.proofs.Ranges.{IsOrdered-grown}
 use Rattle.arena_geo.proofs.Containment.{all_three}
 use Rattle.entity_recs.specs.declared.kind.Kind.{Kind}
 use Rattle.entity_recs.specs.declared.kind.Kind.TheVariants.{Player, Ammo, Gem, Teleporter, Goal, Lift}
 use Rattle.entity_recs.specs.declared.bodies.TheConstants.{ITEM_MINS, ITEM_MAXS, GROWTH, ITEM_GROWTH}
 use Rattle.entity_recs.specs.Records.{IsAboveZero, IsMapBox, IsShapeOf}
-use Rattle.entity_recs.specs.Bodies.{standing, player_body, growth_of, body_of}
+use Rattle.entity_recs.specs.Bodies.{box_at_origin, player_body, growth_of, body_of}
 use Rattle.entity_recs.specs.Laws.{RecordsHaveBoxes, AbsContainsBody}
 
 -- ordered, and so near to 0 that it may grow by 3,840
@@ -27,7 +27,7 @@ player_is_roomy origin near = record {
   high = record { x = omega (arith, ints); y = omega (arith, ints); z = omega (arith, ints) };
 }
 
-item_is_roomy : (origin : Vec3) → IsNear 1048576 origin → IsRoomy (standing origin ITEM_MINS ITEM_MAXS)
+item_is_roomy : (origin : Vec3) → IsNear 1048576 origin → IsRoomy (box_at_origin origin ITEM_MINS ITEM_MAXS)
 item_is_roomy origin near = record {
   ordered = record { x = omega (arith, ints); y = omega (arith, ints); z = omega (arith, ints) };
   low = record { x = omega (arith, ints); y = omega (arith, ints); z = omega (arith, ints) };
@@ -37,17 +37,17 @@ item_is_roomy origin near = record {
 abbrev zero_vector : Vec3
 zero_vector = record { x = pos 0; y = pos 0; z = pos 0 }
 
-sized_is_roomy : (origin maxs : Vec3) → IsNear 1048576 origin → IsAboveZero maxs → IsNear 1048576 (plus origin maxs) → IsRoomy (standing origin zero_vector maxs)
+sized_is_roomy : (origin maxs : Vec3) → IsNear 1048576 origin → IsAboveZero maxs → IsNear 1048576 (plus origin maxs) → IsRoomy (box_at_origin origin zero_vector maxs)
 sized_is_roomy origin maxs near size high = record {
   ordered = record { x = omega (arith, ints); y = omega (arith, ints); z = omega (arith, ints) };
   low = record { x = omega (arith, ints); y = omega (arith, ints); z = omega (arith, ints) };
   high = record { x = omega (arith, ints); y = omega (arith, ints); z = omega (arith, ints) };
 }
 
-map_box_is_roomy : (origin mins maxs : Vec3) → IsNear 1048576 origin → IsMapBox origin mins maxs → IsRoomy (standing origin mins maxs)
+map_box_is_roomy : (origin mins maxs : Vec3) → IsNear 1048576 origin → IsMapBox origin mins maxs → IsRoomy (box_at_origin origin mins maxs)
 map_box_is_roomy origin mins maxs near box = rw box.low_is (sized_is_roomy origin maxs near box.has_size box.high)
 
-pub shape_is_roomy : (kind : Kind) (origin mins maxs : Vec3) → IsNear 1048576 origin → IsShapeOf kind origin mins maxs → IsRoomy (standing origin mins maxs)
+pub shape_is_roomy : (kind : Kind) (origin mins maxs : Vec3) → IsNear 1048576 origin → IsShapeOf kind origin mins maxs → IsRoomy (box_at_origin origin mins maxs)
 shape_is_roomy Player origin mins maxs near shape = rw (shape.low_is, shape.high_is) (player_is_roomy origin near)
 shape_is_roomy Ammo origin mins maxs near shape = rw (shape.low_is, shape.high_is) (item_is_roomy origin near)
 shape_is_roomy Gem origin mins maxs near shape = rw (shape.low_is, shape.high_is) (item_is_roomy origin near)
@@ -89,7 +89,7 @@ growth_is_small Teleporter = body_growth_is_small
 growth_is_small Goal = body_growth_is_small
 growth_is_small Lift = body_growth_is_small
 
-grown_is_box : (b : Bounds) (by : Vec3) → IsRoomy b → IsSmallGrowth by → IsBox (grown b by)
+grown_is_box : (b : Bounds) (by : Vec3) → IsRoomy b → IsSmallGrowth by → IsBox (box_grown_by b by)
 grown_is_box b by roomy small = record {
   ordered = IsOrdered-grown b by roomy.ordered small.positive;
   in_range = record {
@@ -109,7 +109,7 @@ records_have_boxes r within =
 contains_on-grown : (lo hi by : ℤ) → pos 0 ≤ℤ by → contains_on (lo -ℤ by) (hi +ℤ by) lo hi ≡ true
 contains_on-grown lo hi by positive = grind (arith, ints)
 
-pub contains-grown : (b : Bounds) (by : Vec3) → IsNotNegative by → contains (grown b by) b ≡ true
+pub contains-grown : (b : Bounds) (by : Vec3) → IsNotNegative by → contains (box_grown_by b by) b ≡ true
 contains-grown b by positive = all_three (contains_on-grown b.lo.x b.hi.x by.x positive.x) (contains_on-grown b.lo.y b.hi.y by.y positive.y) (contains_on-grown b.lo.z b.hi.z by.z positive.z)
 
 pub abs_contains_body : AbsContainsBody

@@ -59,13 +59,13 @@ pub record HasValidity (takes : Rec → Bool) (effect : Action) : Type 0 where
   pub me : (me : Rec) (near : List Rec) (c : Command) → IsCall takes me near c → takes (effect me near c).me ≡ true
 
 -- the records whose absolute box touches the region
-abbrev pub touching : List Bounds → List Rec → List Rec
-touching region near = filter (λ r. touches_region (abs_of r) region) near
+abbrev pub records_touching : List Bounds → List Rec → List Rec
+records_touching region near = filter (λ r. touches_region (abs_of r) region) near
 
 -- the effect over all records is the effect over those that touch the region
 pub record HasLocality (takes : Rec → Bool) (region : Rec → Command → List Bounds) (effect : Action) : Type 0 where
   pub near : (me : Rec) (near : List Rec) (c : Command) → IsCall takes me near c
-      → effect me near c ≡ effect me (touching (region me c) near) c
+      → effect me near c ≡ effect me (records_touching (region me c) near) c
 
 -- the new state is that of one of these records, and that record lies inside the region
 abbrev pub is_of_one_inside : List Bounds → List Rec → NewState → Bool

@@ -63,7 +63,7 @@ pub fn player_box(origin: Vec3) -> Aabb
     requires { IsNear 1048576 origin }
     ensures { result ≡ player_body origin }
 {
-    Aabb::between(origin + PLAYER_MINS, origin + PLAYER_MAXS)
+    Aabb::from_corners(origin + PLAYER_MINS, origin + PLAYER_MAXS)
 }
 
 /// The body of a record: its origin plus `mins` to its origin plus `maxs`.
@@ -71,7 +71,7 @@ pub fn body_box(r: &Rec) -> Aabb
     requires { IsRecord r.now }
     ensures { result ≡ body_of r.now }
 {
-    Aabb::between(r.origin + r.mins, r.origin + r.maxs)
+    Aabb::from_corners(r.origin + r.mins, r.origin + r.maxs)
 }
 
 /// The absolute box of a record, by which it is linked and touched: it plays the part of `absmin` and `absmax` in
@@ -137,14 +137,14 @@ mod tests {
     }
 
     /// The box between two corners.
-    fn boxed(lo: Vec3, hi: Vec3) -> Result<Aabb, &'static str> {
+    fn box_between(lo: Vec3, hi: Vec3) -> Result<Aabb, &'static str> {
         Aabb::new(lo, hi).ok_or("a box")
     }
 
     #[test]
     fn an_absolute_box_of_a_player_is_wider_than_its_body(rt: HostRuntime) -> Result<(), Fail> {
-        let body = boxed(at(-4_096, -8_448, 0), at(4_096, -256, 14_336))?;
-        let abs = boxed(at(-4_352, -8_704, -256), at(4_352, 0, 14_592))?;
+        let body = box_between(at(-4_096, -8_448, 0), at(4_096, -256, 14_336))?;
+        let abs = box_between(at(-4_352, -8_704, -256), at(4_352, 0, 14_592))?;
         let origin = at(0, -4_352, 6_144);
         let player = record_of(3, Kind::Player, origin, PLAYER_MINS, PLAYER_MAXS);
         assert_eq!(rt; player_box(origin), body);
@@ -155,7 +155,7 @@ mod tests {
 
     #[test]
     fn an_absolute_box_of_an_item_is_wider_on_two_axes(rt: HostRuntime) -> Result<(), Fail> {
-        let abs = boxed(at(16_160, -7_936, 0), at(32_032, 7_936, 14_336))?;
+        let abs = box_between(at(16_160, -7_936, 0), at(32_032, 7_936, 14_336))?;
         let item = record_of(64, Kind::Ammo, at(20_000, -4_096, 0), ITEM_MINS, ITEM_MAXS);
         assert_eq!(rt; abs_box(&item), abs);
         Ok(())
@@ -163,8 +163,8 @@ mod tests {
 
     #[test]
     fn an_absolute_box_of_a_lift_is_wider_than_its_body(rt: HostRuntime) -> Result<(), Fail> {
-        let body = boxed(at(-12_800, -12_800, 0), at(0, 12_800, 2_560))?;
-        let abs = boxed(at(-13_056, -13_056, -256), at(256, 13_056, 2_816))?;
+        let body = box_between(at(-12_800, -12_800, 0), at(0, 12_800, 2_560))?;
+        let abs = box_between(at(-13_056, -13_056, -256), at(256, 13_056, 2_816))?;
         let lift = record_of(
             255,
             Kind::Lift,

@@ -9,7 +9,7 @@ use Rattle.std.proofs.lemmas.List.Quantifiers.{position-Some}
 use Rattle.std.proofs.lemmas.Option.{none-some}
 use Rattle.entity_slots.specs.declared.join_fault.JoinFault.TheVariants.{Already, Full}
 use Rattle.entity_slots.specs.Ports.{port_at, AreSlots, has_port, is_joined, slot_of, is_full}
-use Rattle.entity_slots.specs.Places.{free_slot, place_for, IsLeastFree}
+use Rattle.entity_slots.specs.FreeSlots.{free_slot, slot_for, IsLeastFree}
 
 module _ {X : Type 0} (p : X → Bool) where
   -- some element passes where the first that passes is inside
@@ -86,8 +86,8 @@ free_slot-least ports count slot e =
     some-is (Some p) h = refl
 
 -- a join gets no slot for want of one exactly where the port isn't joined and all slots are live
-pub place_for-full : (ports : List (Option ℕ)) (port : ℕ) → (place_for ports port ≡ Err Full) ↔ ((is_joined ports port ≡ false) × (is_full ports ≡ true))
-place_for-full ports port = by (is_joined ports port) (free_slot ports) refl
+pub slot_for-full : (ports : List (Option ℕ)) (port : ℕ) → (slot_for ports port ≡ Err Full) ↔ ((is_joined ports port ≡ false) × (is_full ports ≡ true))
+slot_for-full ports port = by (is_joined ports port) (free_slot ports) refl
   where
     full-where : (b : Bool) → is_full ports ≡ not b → b ≡ false → is_full ports ≡ true
     full-where b e h = e ∙ ap not h
@@ -109,8 +109,8 @@ place_for-full ports port = by (is_joined ports port) (free_slot ports) refl
         (λ h. cc, λ h. let no = none-where (Some slot) any h.1 in cc)
 
 -- the slot of a join is the least free one
-pub place_for-least : (ports : List (Option ℕ)) (port : ℕ) → length ports ≡ 64 → IfOk (place_for ports port) (IsLeastFree ports)
-place_for-least ports port count = by (is_joined ports port) (free_slot ports) refl
+pub slot_for-least : (ports : List (Option ℕ)) (port : ℕ) → length ports ≡ 64 → IfOk (slot_for ports port) (IsLeastFree ports)
+slot_for-least ports port count = by (is_joined ports port) (free_slot ports) refl
   where
     by : (joined : Bool) (o : Option ℕ) → free_slot ports ≡ o → IfOk (if joined then Err Already else ok_or o Full) (IsLeastFree ports)
     by true o e = tt

@@ -1,7 +1,7 @@
 -- What holds of all slots.
 use Rattle.std.specs.Prelude.{◌≡◌, ℕ, List, Option, Some}
 use Rattle.entity_slots.specs.Ports.{AreSlots, port_at, slot_of}
-use Rattle.entity_slots.specs.Places.{free_slot, IsLeastFree}
+use Rattle.entity_slots.specs.FreeSlots.{free_slot, IsLeastFree}
 
 -- a port is joined in one slot alone, the one that is found for it
 abbrev pub PortsAreApart : Type 0

@@ -1,4 +1,4 @@
 -- The definitions of the slots.
 pub mod Ports
-pub mod Places
+pub mod FreeSlots
 pub mod Laws

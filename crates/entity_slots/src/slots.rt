@@ -2,8 +2,8 @@ ghost use Rattle.std.specs.Prelude.{◌≡◌, ◌↔◌, ◌<◌, Some, None, E
 ghost use Rattle.entity_slots.specs.declared.join_fault.JoinFault.TheVariants.{Already, Full};
 ghost use Rattle.entity_slots.specs.Ports as slots;
 ghost use Rattle.entity_slots.specs.Ports.{no_ports, port_at, is_joined, is_full, with_port, without_slot};
-ghost use Rattle.entity_slots.specs.Places as places;
-ghost use Rattle.entity_slots.specs.Places.{IsLeastFree};
+ghost use Rattle.entity_slots.specs.FreeSlots as places;
+ghost use Rattle.entity_slots.specs.FreeSlots.{IsLeastFree};
 
 use crate::join_fault::JoinFault;
 use entity_recs::SLOTS;
@@ -86,8 +86,8 @@ impl Slots {
 
     /// The least free slot, in which a join of this port goes. `Already` exactly where the port is joined; else `Full`
     /// exactly where all slots are live.
-    pub fn place_for(&self, port: u16) -> Result<u8, JoinFault>
-        ensures value { result ≡ places.place_for self.now port }
+    pub fn slot_for(&self, port: u16) -> Result<u8, JoinFault>
+        ensures value { result ≡ places.slot_for self.now port }
         ensures already { (result ≡ Err Already) ↔ (is_joined self.now port ≡ true) }
         ensures full { (result ≡ Err Full) ↔ ((is_joined self.now port ≡ false) × (is_full self.now ≡ true)) }
         ensures least { IfOk result (IsLeastFree self.now) }

@@ -8,7 +8,7 @@ use Rattle.crossbeam_queue.proofs.Lists.{at_set}
 use Rattle.std.proofs.lemmas.Option.{same_Some}
 use Rattle.feed_queue.specs.declared.hand.Hand.{Hand}
 use Rattle.feed_queue.specs.Orders.{is_of, places_below, IsOrder}
-use Rattle.feed_queue.specs.Hands.{hand, nothing_done, spent, feeder_hand, pushed, popped}
+use Rattle.feed_queue.specs.Hands.{hand, nothing_done, empty_hand, feeder_hand, hand_after_push, hand_after_pop}
 use Rattle.feed_queue.specs.Rule.{IsKept, HasRoomFor, Holds}
 use Rattle.feed_queue.proofs.Counting.{own_last, other_last, own_below, other_below, own_fits, each_of_one, even_not_odd, odd_not_even, as_many_places}
 use Rattle.feed_queue.proofs.Doing.{done_first, done_more, done_same, done_none, done_beside, done_given, done_back}
@@ -30,10 +30,10 @@ begins ports = record {
 
 pub sends : (n : ℕ) (ports : List ℕ) (feeder place pass : ℕ) → feeder < 2 → place < length ports → is_of ports feeder place ≡ true
     → Pushes (IsKept ports) n pass (feeder_hand feeder (places_below ports feeder place)) place
-    (λ w. w ≡ pushed (feeder_hand feeder (places_below ports feeder place)) place)
+    (λ w. w ≡ hand_after_push (feeder_hand feeder (places_below ports feeder place)) place)
 sends n ports zero place pass two lt own items views room k here =
     let v : Hand = feeder_hand 0 (places_below ports 0 place) in
-    let w : Hand = pushed v place in
+    let w : Hand = hand_after_push v place in
     let all : k.got ++ (items ++ place ∷ []) ≡ (k.got ++ items) ++ place ∷ [] = sym (append_assoc k.got items (place ∷ [])) in
     let evens = ap (filter (is_of ports 0)) all ∙ own_last ports 0 place (k.got ++ items) own in
     let odds = ap (filter (is_of ports 1)) all ∙ other_last ports 1 place (k.got ++ items) (even_not_odd ports place own) in
@@ -55,7 +55,7 @@ sends n ports zero place pass two lt own items views room k here =
     )
 sends n ports (suc zero) place pass two lt own items views room k here =
     let v : Hand = feeder_hand 1 (places_below ports 1 place) in
-    let w : Hand = pushed v place in
+    let w : Hand = hand_after_push v place in
     let all : k.got ++ (items ++ place ∷ []) ≡ (k.got ++ items) ++ place ∷ [] = sym (append_assoc k.got items (place ∷ [])) in
     let odds = ap (filter (is_of ports 1)) all ∙ own_last ports 1 place (k.got ++ items) own in
     let evens = ap (filter (is_of ports 0)) all ∙ other_last ports 0 place (k.got ++ items) (odd_not_even ports place own) in
@@ -79,7 +79,7 @@ sends n ports (suc (suc f)) place pass two lt own items views room k here = absu
 
 -- a feeder that has pushed a place goes on with the next one
 pub pushed_on : (ports : List ℕ) (feeder place : ℕ) → feeder < 2 → is_of ports feeder place ≡ true
-    → pushed (feeder_hand feeder (places_below ports feeder place)) place ≡ feeder_hand feeder (places_below ports feeder (place + 1))
+    → hand_after_push (feeder_hand feeder (places_below ports feeder place)) place ≡ feeder_hand feeder (places_below ports feeder (place + 1))
 pushed_on ports zero place two own = ap (λ l. hand (Some l) None None) (sym (own_below ports 0 place own))
 pushed_on ports (suc zero) place two own = ap (λ l. hand None (Some l) None) (sym (own_below ports 1 place own))
 pushed_on ports (suc (suc f)) place two own = absurd (omega arith)
@@ -122,10 +122,10 @@ has_room ports (suc (suc f)) place pass two lt own items views k here = absurd (
 -- ---- a pop
 
 pub gets : (ports : List ℕ) (evens odds : Option (List ℕ)) (got : List ℕ) (pass : ℕ)
-    → Pops (IsKept ports) pass (hand evens odds (Some got)) (λ x w. w ≡ popped (hand evens odds (Some got)) x)
+    → Pops (IsKept ports) pass (hand evens odds (Some got)) (λ x w. w ≡ hand_after_pop (hand evens odds (Some got)) x)
 gets ports evens odds got pass x items views k here =
     let v : Hand = hand evens odds (Some got) in
-    let w : Hand = popped v x in
+    let w : Hand = hand_after_pop v x in
     let mine = k.reads pass v got here refl in
     let all : k.got ++ x ∷ items ≡ (k.got ++ x ∷ []) ++ items = sym (append_assoc k.got (x ∷ []) items) in (
       w,
@@ -200,7 +200,7 @@ was_there : (views : List Hand) (pass other : ℕ) (both w : Hand) → ¬ (other
 was_there views pass other both w two at = ⊎_elim (λ x. absurd (two x.0)) (λ x. x.1) (at_set views pass other both w at)
 
 pub merges_evens : (ports mine : List ℕ) (odds got : Option (List ℕ)) (pass other : ℕ)
-    → Merges (IsKept ports) pass (hand None odds got) other (hand (Some mine) None None) (hand (Some mine) odds got) spent
+    → Merges (IsKept ports) pass (hand None odds got) other (hand (Some mine) None None) (hand (Some mine) odds got) empty_hand
 merges_evens ports mine odds got pass other items views k here two there =
     let v : Hand = hand None odds got in
     let w : Hand = hand (Some mine) None None in
@@ -210,17 +210,17 @@ merges_evens ports mine odds got pass other items views k here two there =
       evens_at = pass;
       odds_at = k.odds_at;
       got_at = k.got_at;
-      evens = done_back (λ v. v.evens) k.evens_at (filter (is_of ports 0) (k.got ++ items)) views pass other w both spent mine k.evens was refl refl refl;
-      odds = done_none (λ v. v.odds) k.odds_at (filter (is_of ports 1) (k.got ++ items)) (set views pass both) other spent
+      evens = done_back (λ v. v.evens) k.evens_at (filter (is_of ports 0) (k.got ++ items)) views pass other w both empty_hand mine k.evens was refl refl refl;
+      odds = done_none (λ v. v.odds) k.odds_at (filter (is_of ports 1) (k.got ++ items)) (set views pass both) other empty_hand
           (done_same (λ v. v.odds) k.odds_at (filter (is_of ports 1) (k.got ++ items)) views pass v both k.odds here refl) refl;
-      reads = done_none (λ v. v.got) k.got_at k.got (set views pass both) other spent
+      reads = done_none (λ v. v.got) k.got_at k.got (set views pass both) other empty_hand
           (done_same (λ v. v.got) k.got_at k.got views pass v both k.reads here refl) refl;
       few_evens = k.few_evens;
       few_odds = k.few_odds;
     }
 
 pub merges_odds : (ports mine : List ℕ) (evens got : Option (List ℕ)) (pass other : ℕ)
-    → Merges (IsKept ports) pass (hand evens None got) other (hand None (Some mine) None) (hand evens (Some mine) got) spent
+    → Merges (IsKept ports) pass (hand evens None got) other (hand None (Some mine) None) (hand evens (Some mine) got) empty_hand
 merges_odds ports mine evens got pass other items views k here two there =
     let v : Hand = hand evens None got in
     let w : Hand = hand None (Some mine) None in
@@ -230,10 +230,10 @@ merges_odds ports mine evens got pass other items views k here two there =
       evens_at = k.evens_at;
       odds_at = pass;
       got_at = k.got_at;
-      evens = done_none (λ v. v.evens) k.evens_at (filter (is_of ports 0) (k.got ++ items)) (set views pass both) other spent
+      evens = done_none (λ v. v.evens) k.evens_at (filter (is_of ports 0) (k.got ++ items)) (set views pass both) other empty_hand
           (done_same (λ v. v.evens) k.evens_at (filter (is_of ports 0) (k.got ++ items)) views pass v both k.evens here refl) refl;
-      odds = done_back (λ v. v.odds) k.odds_at (filter (is_of ports 1) (k.got ++ items)) views pass other w both spent mine k.odds was refl refl refl;
-      reads = done_none (λ v. v.got) k.got_at k.got (set views pass both) other spent
+      odds = done_back (λ v. v.odds) k.odds_at (filter (is_of ports 1) (k.got ++ items)) views pass other w both empty_hand mine k.odds was refl refl refl;
+      reads = done_none (λ v. v.got) k.got_at k.got (set views pass both) other empty_hand
           (done_same (λ v. v.got) k.got_at k.got views pass v both k.reads here refl) refl;
       few_evens = k.few_evens;
       few_odds = k.few_odds;

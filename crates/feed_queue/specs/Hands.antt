@@ -10,8 +10,8 @@ abbrev pub nothing_done : Hand
 nothing_done = hand (Some []) (Some []) (Some [])
 
 -- it may do nothing
-abbrev pub spent : Hand
-spent = hand None None None
+abbrev pub empty_hand : Hand
+empty_hand = hand None None None
 
 -- what it does as feeder 0 is another's, or its own again; and the same as feeder 1
 abbrev pub without_evens : Hand → Hand
@@ -42,8 +42,8 @@ abbrev pub one_more : ℕ → Option (List ℕ) → Option (List ℕ)
 one_more place done = option_map (λ places. places ++ place ∷ []) done
 
 -- a place was pushed, or popped
-abbrev pub pushed : Hand → ℕ → Hand
-pushed v place = hand (one_more place v.evens) (one_more place v.odds) v.got
+abbrev pub hand_after_push : Hand → ℕ → Hand
+hand_after_push v place = hand (one_more place v.evens) (one_more place v.odds) v.got
 
-abbrev pub popped : Hand → ℕ → Hand
-popped v place = hand v.evens v.odds (one_more place v.got)
+abbrev pub hand_after_pop : Hand → ℕ → Hand
+hand_after_pop v place = hand v.evens v.odds (one_more place v.got)

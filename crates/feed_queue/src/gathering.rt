@@ -6,7 +6,7 @@ ghost use Rattle.feed_queue.specs.Orders.{ports_of, places_below, Fit, IsOrder};
 ghost use Rattle.feed_queue.specs.Popped.{HasPopped};
 
 use crate::arrival_order::ArrivalOrder;
-use crate::gate::FeedGate;
+use crate::gate::FeedHold;
 use crate::hand::{Evens, Gets, Hand, Line, Odds, Ported};
 use crate::place_list::PlaceList;
 use crate::sending::feed;
@@ -48,7 +48,7 @@ fn read_all<N: Ported, R: Wait>(
 
 /// The order in which two feeders send these packets through this queue: what this pass of it has popped in the end,
 /// beside the pass.
-fn gather_through<N: Ported + Send + Sync, R: Threads + Wait + Sync, F: FeedGate>(
+fn gather_through<N: Ported + Send + Sync, R: Threads + Wait + Sync, F: FeedHold>(
     rt: &R,
     line: &Line<N>,
     mut pass: Pass<u32, Hand>,
@@ -85,7 +85,7 @@ fn gather_through<N: Ported + Send + Sync, R: Threads + Wait + Sync, F: FeedGate
 }
 
 /// The order in which two feeders send these packets, with the ports picked.
-fn gather_as<N: Ported + Send + Sync, R: Threads + Wait + Sync, F: FeedGate>(
+fn gather_as<N: Ported + Send + Sync, R: Threads + Wait + Sync, F: FeedHold>(
     rt: &R,
     alloc: Global,
     arrivals: &[Arrival],
@@ -106,7 +106,7 @@ fn gather_as<N: Ported + Send + Sync, R: Threads + Wait + Sync, F: FeedGate>(
 ///
 /// All memory is taken before a feeder starts: the queue has room for all packets, so none is refused. The only error is
 /// that memory is refused.
-pub fn gather<R: Threads + Wait + Sync, F: FeedGate>(
+pub fn gather<R: Threads + Wait + Sync, F: FeedHold>(
     rt: &R,
     alloc: Global,
     arrivals: &[Arrival],

@@ -57,11 +57,11 @@ impl Split<Hand> for Evens {
 }
 
 impl Join<Hand> for Evens {
-    ghost use Rattle.feed_queue.specs.Hands.{with_evens, spent};
+    ghost use Rattle.feed_queue.specs.Hands.{with_evens, empty_hand};
 
     ghost both = { with_evens };
 
-    ghost spent = { spent };
+    ghost spent = { empty_hand };
 }
 
 /// The pass of feeder 1 is made.
@@ -76,11 +76,11 @@ impl Split<Hand> for Odds {
 }
 
 impl Join<Hand> for Odds {
-    ghost use Rattle.feed_queue.specs.Hands.{with_odds, spent};
+    ghost use Rattle.feed_queue.specs.Hands.{with_odds, empty_hand};
 
     ghost both = { with_odds };
 
-    ghost spent = { spent };
+    ghost spent = { empty_hand };
 }
 
 /// A feeder pushes a place, of a queue that is never full then.
@@ -90,9 +90,9 @@ pub struct Puts<N> {
 
 impl<N: Ported> Outcome<u32, Hand> for Puts<N> {
     ghost use Rattle.std.specs.Prelude.{◌≡◌};
-    ghost use Rattle.feed_queue.specs.Hands.{pushed};
+    ghost use Rattle.feed_queue.specs.Hands.{hand_after_push};
 
-    ghost then = { λ v place w. w ≡ pushed v place };
+    ghost then = { λ v place w. w ≡ hand_after_push v place };
 }
 
 impl<N: Ported> Lesson<u32, Hand> for Puts<N> {
@@ -108,9 +108,9 @@ pub struct Gets<N> {
 
 impl<N: Ported> Outcome<u32, Hand> for Gets<N> {
     ghost use Rattle.std.specs.Prelude.{◌≡◌};
-    ghost use Rattle.feed_queue.specs.Hands.{popped};
+    ghost use Rattle.feed_queue.specs.Hands.{hand_after_pop};
 
-    ghost then = { λ v place w. w ≡ popped v place };
+    ghost then = { λ v place w. w ≡ hand_after_pop v place };
 }
 
 impl<N: Ported> Lesson<u32, Hand> for Gets<N> {

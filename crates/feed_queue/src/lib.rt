@@ -2,7 +2,7 @@
 #![tactic(auto)]
 
 pub use arrival_order::ArrivalOrder;
-pub use gate::{FeedGate, NoFeedGate};
+pub use gate::{FeedHold, NoFeedHold};
 pub use gathering::gather;
 pub use laws::{orders_have_each_place_once, orders_keep_each_port};
 pub use place_list::MOST_PLACES;

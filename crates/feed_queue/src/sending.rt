@@ -3,7 +3,7 @@ ghost use Rattle.crossbeam_queue.specs.Passes.{view, IsPassOf, IsSamePass, ruled
 ghost use Rattle.feed_queue.specs.Hands.{feeder_hand};
 ghost use Rattle.feed_queue.specs.Orders.{ports_of, is_of, places_below, Fit};
 
-use crate::gate::FeedGate;
+use crate::gate::FeedHold;
 use crate::hand::{Hand, Line, Ported, Puts};
 use crossbeam_queue::Pass;
 use packet_read::Arrival;
@@ -41,7 +41,7 @@ fn send<N: Ported, R: Wait>(
 }
 
 /// Sends the packets of a feeder's ports in their order, and calls the gate after each with how many it has sent so far.
-pub fn feed<N: Ported, R: Wait, F: FeedGate>(
+pub fn feed<N: Ported, R: Wait, F: FeedHold>(
     rt: &R,
     line: &Line<N>,
     mut pass: Pass<u32, Hand>,

@@ -10,7 +10,7 @@ use Rattle.snapshot_write.specs.Snapshots.{snapshot}
 use Rattle.reply_fan.specs.Replies.{AreLive, reply_from, reply_to, replies_to}
 use Rattle.plain_server.specs.Replies.{players_in, slots_of, replies_of}
 use Rattle.plain_server.proofs.Others.{each_live}
-use Rattle.frame_phases.specs.ReplyLoans.{rewritten}
+use Rattle.frame_phases.specs.ReplyLoans.{list_rewritten_with}
 
 -- what holds of each holds of those that pass a test
 those_that_pass : (P : Rec → Type 0) (test : Rec → Bool) (rs : List Rec) → AllByRecursion P rs → AllByRecursion P (filter test rs)
@@ -46,5 +46,5 @@ module _ (records : List (Option Rec)) where
   replies_shown frame entries = replies_at frame (players_in records) (players_at entries)
 
 -- where as many items were written as there were, the list has the new ones
-pub rewritten-all : (old new : List (List ℕ)) → length old ≡ length new → rewritten old new ≡ new
+pub rewritten-all : (old new : List (List ℕ)) → length old ≡ length new → list_rewritten_with old new ≡ new
 rewritten-all old new same = ap (λ k. take k (new ++ drop (length new) old)) same ∙ take-append_seam new (drop (length new) old)

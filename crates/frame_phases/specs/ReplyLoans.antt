@@ -7,9 +7,9 @@ use Rattle.snapshot_write.specs.declared.reply_buf.TheConstants.{REPLY_ROOM}
 use Rattle.frame_phases.specs.contracts.replies.ReplyList.{the_row}
 
 -- a list whose items were written: the new items in place of the old ones, as many as there were
-abbrev pub rewritten : List (List ℕ) → List (List ℕ) → List (List ℕ)
-rewritten old new = take (length old) (new ++ drop (length new) old)
+abbrev pub list_rewritten_with : List (List ℕ) → List (List ℕ) → List (List ℕ)
+list_rewritten_with old new = take (length old) (new ++ drop (length new) old)
 
 -- after the loan the list has the last items of the lent slice
 abbrev pub LendsItems : MutBor (List (List ℕ)) → MutBor (List (List ℕ)) → Fml
-LendsItems list slice = Lends the_row (Array (buf_row (number REPLY_ROOM)) 0) list slice (rewritten list.now)
+LendsItems list slice = Lends the_row (Array (buf_row (number REPLY_ROOM)) 0) list slice (list_rewritten_with list.now)

@@ -3,7 +3,7 @@ use Rattle.std.proofs.Common.{◌≡◌, ◌≢◌, ℕ, ◌<◌, ◌⊎◌, Lis
 use Rattle.std.proofs.lemmas.Bool.{cases_eq, cases_lt}
 use Rattle.std.proofs.lemmas.List.{get_or_past, get_or-replicate, length-map, length-replicate}
 use Rattle.std.proofs.lemmas.Option.{none-some, same_Some}
-use Rattle.link_lists.specs.Pool.{ListsView, where_of, first_of, next_of, empty_pool, inserted, removed, without, SetsOnly}
+use Rattle.link_lists.specs.Pool.{ListsView, where_of, first_of, next_of, empty_pool, lists_after_insert, lists_after_remove, without, SetsOnly}
 use Rattle.link_lists.specs.Links.{link_at, with_link, IsLinkedAs}
 use Rattle.link_lists.proofs.Pools.{has-where_of, where_of-first, where_of-next, where_of-lt, first_or_next, next_of-Some, next_of-apart, list_of-empty, IsProper-empty, where_of-empty, next_of-nowhere, IsProper-inserted, where_of-inserted, first_of-inserted, first_of-inserted_other, next_of-inserted, next_of-inserted_other, IsProper-removed, where_of-removed, next_of-removed, next_of-removed_before, next_of-removed_other, first_of-removed, first_of-removed_other}
 
@@ -92,14 +92,14 @@ module _ (heads next prev places : List (Option ℕ)) (p : ListsView) (linked : 
 module _ (heads next prev places : List (Option ℕ)) (p : ListsView) (k id : ℕ) (linked : IsLinkedAs heads next prev places p)
     (list_in_range : k < length p.lists) (id_in_range : id < p.ids) (unlinked : where_of p id ≡ None) where
   -- where each id is then
-  moved : SetsOnly p (inserted p k id) id (Some k)
+  moved : SetsOnly p (lists_after_insert p k id) id (Some k)
   moved = where_of-inserted p k id linked.proper list_in_range id_in_range unlinked
 
   -- the link back of any other id than the old first one stays
   kept : (other : ℕ) → (first_of p k ≡ Some other → ⊥) → link_at (prev_with heads prev k id) other ≡ link_at prev other
   kept other ne = link_at-with_link_other prev (link_at heads k) (Some id) other (λ e. ne (sym (linked.firsts k) ∙ e))
 
-  inserted_firsts : (j : ℕ) → link_at (set heads k (Some id)) j ≡ first_of (inserted p k id) j
+  inserted_firsts : (j : ℕ) → link_at (set heads k (Some id)) j ≡ first_of (lists_after_insert p k id) j
   inserted_firsts j = elim (cases_eq j k) [
     | inl same ↦ rw same (
         get_or-set_same heads k (Some id) None (let count = linked.list_count in omega arith)
@@ -110,7 +110,7 @@ module _ (heads next prev places : List (Option ℕ)) (p : ListsView) (k id : �
         ∙ sym (first_of-inserted_other p k id linked.proper list_in_range id_in_range unlinked j apart)
   ]
 
-  inserted_nexts : (j : ℕ) → link_at (set next id (link_at heads k)) j ≡ next_of (inserted p k id) j
+  inserted_nexts : (j : ℕ) → link_at (set next id (link_at heads k)) j ≡ next_of (lists_after_insert p k id) j
   inserted_nexts j = elim (cases_eq j id) [
     | inl same ↦ rw same (
         get_or-set_same next id (link_at heads k) None (let count = linked.next_count in omega arith)
@@ -122,7 +122,7 @@ module _ (heads next prev places : List (Option ℕ)) (p : ListsView) (k id : �
         ∙ sym (next_of-inserted_other p k id linked.proper list_in_range id_in_range unlinked j apart)
   ]
 
-  inserted_wheres : (j : ℕ) → link_at (set places id (Some k)) j ≡ where_of (inserted p k id) j
+  inserted_wheres : (j : ℕ) → link_at (set places id (Some k)) j ≡ where_of (lists_after_insert p k id) j
   inserted_wheres j = elim (cases_eq j id) [
     | inl same ↦ rw same (
         get_or-set_same places id (Some k) None (let count = linked.place_count in omega arith)
@@ -130,11 +130,11 @@ module _ (heads next prev places : List (Option ℕ)) (p : ListsView) (k id : �
     | inr apart ↦ get_or-set_other places id j (Some k) None apart ∙ linked.wheres j ∙ sym (moved.others j apart)
   ]
 
-  inserted_backs : (j other : ℕ) → next_of (inserted p k id) j ≡ Some other → link_at (prev_with heads prev k id) other ≡ Some j
+  inserted_backs : (j other : ℕ) → next_of (lists_after_insert p k id) j ≡ Some other → link_at (prev_with heads prev k id) other ≡ Some j
   inserted_backs j other e = elim (cases_eq j id) [
     | inl same ↦
         let first : first_of p k ≡ Some other =
-        sym (next_of-inserted p k id linked.proper list_in_range id_in_range unlinked) ∙ subst (λ i. next_of (inserted p k id) i ≡ Some other) same e in
+        sym (next_of-inserted p k id linked.proper list_in_range id_in_range unlinked) ∙ subst (λ i. next_of (lists_after_insert p k id) i ≡ Some other) same e in
         let within = linked.proper.in_range k other (has-where_of p other k (where_of-first p k other linked.proper first)) in
         link_at-with_link prev (link_at heads k) (Some id) other (let count = linked.prev_count in omega arith) (linked.firsts k ∙ first)
         ∙ ap (λ (i : ℕ). Some i) (sym same)
@@ -143,11 +143,11 @@ module _ (heads next prev places : List (Option ℕ)) (p : ListsView) (k id : �
         kept other (λ first. none-some j (sym (linked.fronts k other first) ∙ back)) ∙ back
   ]
 
-  inserted_fronts : (j other : ℕ) → first_of (inserted p k id) j ≡ Some other → link_at (prev_with heads prev k id) other ≡ None
+  inserted_fronts : (j other : ℕ) → first_of (lists_after_insert p k id) j ≡ Some other → link_at (prev_with heads prev k id) other ≡ None
   inserted_fronts j other e = elim (cases_eq j k) [
     | inl same ↦
         let is : id ≡ other = same_Some id other (
-        sym (first_of-inserted p k id linked.proper list_in_range id_in_range unlinked) ∙ subst (λ i. first_of (inserted p k id) i ≡ Some other) same e) in
+        sym (first_of-inserted p k id linked.proper list_in_range id_in_range unlinked) ∙ subst (λ i. first_of (lists_after_insert p k id) i ≡ Some other) same e) in
         subst (λ i. link_at (prev_with heads prev k id) i ≡ None) is (
         kept id (λ first. none-some k (sym unlinked ∙ where_of-first p k id linked.proper first)) ∙ linked.frees id unlinked)
     | inr apart ↦
@@ -156,14 +156,14 @@ module _ (heads next prev places : List (Option ℕ)) (p : ListsView) (k id : �
         kept other (λ first. apart (same_Some j k (sym there ∙ where_of-first p k other linked.proper first))) ∙ linked.fronts j other front
   ]
 
-  inserted_frees : (other : ℕ) → where_of (inserted p k id) other ≡ None → link_at (prev_with heads prev k id) other ≡ None
+  inserted_frees : (other : ℕ) → where_of (lists_after_insert p k id) other ≡ None → link_at (prev_with heads prev k id) other ≡ None
   inserted_frees other e =
-      let apart : other ≢ id = λ same. none-some k (sym (subst (λ i. where_of (inserted p k id) i ≡ None) same e) ∙ moved.changed) in
+      let apart : other ≢ id = λ same. none-some k (sym (subst (λ i. where_of (lists_after_insert p k id) i ≡ None) same e) ∙ moved.changed) in
       let free : where_of p other ≡ None = sym (moved.others other apart) ∙ e in
       kept other (λ first. none-some k (sym free ∙ where_of-first p k other linked.proper first)) ∙ linked.frees other free
 
   pub IsLinkedAs-inserted
-      : IsLinkedAs (set heads k (Some id)) (set next id (link_at heads k)) (prev_with heads prev k id) (set places id (Some k)) (inserted p k id)
+      : IsLinkedAs (set heads k (Some id)) (set next id (link_at heads k)) (prev_with heads prev k id) (set places id (Some k)) (lists_after_insert p k id)
   IsLinkedAs-inserted = record {
     proper = IsProper-inserted p k id linked.proper list_in_range id_in_range unlinked;
     list_count = simp length-set linked.list_count;
@@ -204,10 +204,10 @@ module _ (heads next prev places : List (Option ℕ)) (p : ListsView) (k id : �
       omega (arith, linked.proper.in_range w.0 b (has-where_of p b w.0 w.1))
 
   -- where each id is then
-  left : SetsOnly p (removed p id) id None
+  left : SetsOnly p (lists_after_remove p id) id None
   left = where_of-removed p id linked.proper
 
-  removed_nexts : (j : ℕ) → link_at (next_without next prev id) j ≡ next_of (removed p id) j
+  removed_nexts : (j : ℕ) → link_at (next_without next prev id) j ≡ next_of (lists_after_remove p id) j
   removed_nexts j =
       let count = linked.next_count in
       let inside = within_ids in
@@ -233,7 +233,7 @@ module _ (heads next prev places : List (Option ℕ)) (p : ListsView) (k id : �
         ]
       ]
 
-  removed_wheres : (j : ℕ) → link_at (set places id None) j ≡ where_of (removed p id) j
+  removed_wheres : (j : ℕ) → link_at (set places id None) j ≡ where_of (lists_after_remove p id) j
   removed_wheres j =
       let count = linked.place_count in
       let inside = within_ids in
@@ -263,9 +263,9 @@ module _ (heads next prev places : List (Option ℕ)) (p : ListsView) (k id : �
       (λ e. next_of-apart p id linked.proper (sym (linked.nexts id) ∙ e))
       ∙ get_or-set_same prev id None None (omega arith)
 
-  removed_backs : (j other : ℕ) → next_of (removed p id) j ≡ Some other → link_at (prev_without next prev id) other ≡ Some j
+  removed_backs : (j other : ℕ) → next_of (lists_after_remove p id) j ≡ Some other → link_at (prev_without next prev id) other ≡ Some j
   removed_backs j other e = elim (cases_eq j id) [
-    | inl same ↦ absurd (none-some other (sym (subst (λ i. next_of (removed p id) i ≡ None) (sym same) (next_of-removed p id linked.proper)) ∙ e))
+    | inl same ↦ absurd (none-some other (sym (subst (λ i. next_of (lists_after_remove p id) i ≡ None) (sym same) (next_of-removed p id linked.proper)) ∙ e))
     | inr apart ↦ elim (cases_Some (next_of p j) id) [
       | inl before ↦
           back_after other (sym (next_of-removed_before p id linked.proper j before) ∙ e) ∙ linked.backs j id before
@@ -279,7 +279,7 @@ module _ (heads next prev places : List (Option ℕ)) (p : ListsView) (k id : �
     ]
   ]
 
-  removed_fronts : (j other : ℕ) → first_of (removed p id) j ≡ Some other → link_at (prev_without next prev id) other ≡ None
+  removed_fronts : (j other : ℕ) → first_of (lists_after_remove p id) j ≡ Some other → link_at (prev_without next prev id) other ≡ None
   removed_fronts j other e = elim (cases_Some (first_of p j) id) [
     | inl first ↦ back_after other (sym (first_of-removed p id linked.proper j first) ∙ e) ∙ linked.fronts j id first
     | inr ne ↦
@@ -291,7 +291,7 @@ module _ (heads next prev places : List (Option ℕ)) (p : ListsView) (k id : �
         ∙ front
   ]
 
-  removed_frees : (other : ℕ) → where_of (removed p id) other ≡ None → link_at (prev_without next prev id) other ≡ None
+  removed_frees : (other : ℕ) → where_of (lists_after_remove p id) other ≡ None → link_at (prev_without next prev id) other ≡ None
   removed_frees other e = elim (cases_eq other id) [
     | inl same ↦ rw same back_itself
     | inr apart ↦
@@ -299,7 +299,7 @@ module _ (heads next prev places : List (Option ℕ)) (p : ListsView) (k id : �
         back_other other apart (λ after. none-some k (sym free ∙ where_of-next p id other k linked.proper at after)) ∙ linked.frees other free
   ]
 
-  removed_firsts : link_at prev id ≡ None → (j : ℕ) → link_at (set heads k (link_at next id)) j ≡ first_of (removed p id) j
+  removed_firsts : link_at prev id ≡ None → (j : ℕ) → link_at (set heads k (link_at next id)) j ≡ first_of (lists_after_remove p id) j
   removed_firsts back j =
       let count = linked.list_count in
       let within = where_of-lt p id k at in
@@ -315,14 +315,14 @@ module _ (heads next prev places : List (Option ℕ)) (p : ListsView) (k id : �
             ∙ sym (first_of-removed_other p id linked.proper j (λ e. apart (same_Some j k (sym (where_of-first p j id linked.proper e) ∙ at))))
       ]
 
-  removed_firsts_after : (b : ℕ) → link_at prev id ≡ Some b → (j : ℕ) → link_at heads j ≡ first_of (removed p id) j
+  removed_firsts_after : (b : ℕ) → link_at prev id ≡ Some b → (j : ℕ) → link_at heads j ≡ first_of (lists_after_remove p id) j
   removed_firsts_after b back j =
       linked.firsts j
       ∙ sym (first_of-removed_other p id linked.proper j (λ e. none-some b (sym (linked.fronts j id e) ∙ back)))
 
   -- the heads may change, as long as they are the first ids
-  linked_by : (new_heads : List (Option ℕ)) → length new_heads ≡ length heads → ((j : ℕ) → link_at new_heads j ≡ first_of (removed p id) j)
-      → IsLinkedAs new_heads (next_without next prev id) (prev_without next prev id) (set places id None) (removed p id)
+  linked_by : (new_heads : List (Option ℕ)) → length new_heads ≡ length heads → ((j : ℕ) → link_at new_heads j ≡ first_of (lists_after_remove p id) j)
+      → IsLinkedAs new_heads (next_without next prev id) (prev_without next prev id) (set places id None) (lists_after_remove p id)
   linked_by new_heads same_count firsts = record {
     proper = IsProper-removed p id linked.proper;
     list_count = same_count ∙ linked.list_count ∙ sym (length-map p.lists (without id));
@@ -340,21 +340,21 @@ module _ (heads next prev places : List (Option ℕ)) (p : ListsView) (k id : �
   -- the first id of its list taken out
   pub IsLinkedAs-removed_first : link_at prev id ≡ None
       → IsLinkedAs (set heads k (link_at next id)) (set next id None)
-      (with_link (set prev id None) (link_at next id) None) (set places id None) (removed p id)
+      (with_link (set prev id None) (link_at next id) None) (set places id None) (lists_after_remove p id)
   IsLinkedAs-removed_first back =
       subst
       (λ o. IsLinkedAs (set heads k (link_at next id)) (with_link (set next id None) o (link_at next id))
-      (with_link (set prev id None) (link_at next id) o) (set places id None) (removed p id))
+      (with_link (set prev id None) (link_at next id) o) (set places id None) (lists_after_remove p id))
       back
       (linked_by (set heads k (link_at next id)) (length-set heads k (link_at next id)) (removed_firsts back))
 
   -- an id after another taken out
   pub IsLinkedAs-removed_after : (b : ℕ) → link_at prev id ≡ Some b
       → IsLinkedAs heads (set (set next id None) b (link_at next id))
-      (with_link (set prev id None) (link_at next id) (Some b)) (set places id None) (removed p id)
+      (with_link (set prev id None) (link_at next id) (Some b)) (set places id None) (lists_after_remove p id)
   IsLinkedAs-removed_after b back =
       subst
       (λ o. IsLinkedAs heads (with_link (set next id None) o (link_at next id))
-      (with_link (set prev id None) (link_at next id) o) (set places id None) (removed p id))
+      (with_link (set prev id None) (link_at next id) o) (set places id None) (lists_after_remove p id))
       back
       (linked_by heads refl (removed_firsts_after b back))

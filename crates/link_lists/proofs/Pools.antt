@@ -7,7 +7,7 @@ use Rattle.std.proofs.lemmas.List.Quantifiers.{position-Some}
 use Rattle.std.proofs.lemmas.List.Sums.{fails_before_first}
 use Rattle.std.proofs.lemmas.Map.Steps.{length-le_from_distinct_below}
 use Rattle.std.proofs.lemmas.Option.{none-some}
-use Rattle.link_lists.specs.Pool.{ListsView, has, after, without, list_of, where_of, first_of, next_of, empty_pool, inserted, removed, IsProper, SetsOnly}
+use Rattle.link_lists.specs.Pool.{ListsView, has, after, without, list_of, where_of, first_of, next_of, empty_pool, lists_after_insert, lists_after_remove, IsProper, SetsOnly}
 use Rattle.link_lists.proofs.OneList.{has-slice_get, has-after, has-before, after-at, first_or_after, without-itself, has-without, IsDistinct-first, IsDistinct-without, first-without, first-without_other, after-apart, after-without, after-without_other}
 
 -- an option is empty or has a value
@@ -156,22 +156,22 @@ where_of-empty ids lists id = elim (cases_option (where_of (empty_pool ids lists
 -- an id inserted as the first of list k
 module _ (p : ListsView) (k id : ℕ) (proper : IsProper p)
     (list_in_range : k < length p.lists) (id_in_range : id < p.ids) (unlinked : where_of p id ≡ None) where
-  pub list_of-inserted : list_of (inserted p k id) k ≡ id ∷ list_of p k
+  pub list_of-inserted : list_of (lists_after_insert p k id) k ≡ id ∷ list_of p k
   list_of-inserted = get_or-set_same p.lists k (id ∷ list_of p k) [] list_in_range
 
-  pub list_of-inserted_other : (j : ℕ) → j ≢ k → list_of (inserted p k id) j ≡ list_of p j
+  pub list_of-inserted_other : (j : ℕ) → j ≢ k → list_of (lists_after_insert p k id) j ≡ list_of p j
   list_of-inserted_other j ne = get_or-set_other p.lists k j (id ∷ list_of p k) [] ne
 
-  pub first_of-inserted : first_of (inserted p k id) k ≡ Some id
+  pub first_of-inserted : first_of (lists_after_insert p k id) k ≡ Some id
   first_of-inserted = ap (λ (xs : List ℕ). slice_get xs 0) list_of-inserted
 
-  pub first_of-inserted_other : (j : ℕ) → j ≢ k → first_of (inserted p k id) j ≡ first_of p j
+  pub first_of-inserted_other : (j : ℕ) → j ≢ k → first_of (lists_after_insert p k id) j ≡ first_of p j
   first_of-inserted_other j ne = ap (λ (xs : List ℕ). slice_get xs 0) (list_of-inserted_other j ne)
 
-  has-inserted : has (list_of (inserted p k id) k) id ≡ true
+  has-inserted : has (list_of (lists_after_insert p k id) k) id ≡ true
   has-inserted = ap (λ xs. has xs id) list_of-inserted ∙ or_left _ _ (eq-eqb id id refl)
 
-  has-inserted_other : (j other : ℕ) → other ≢ id → has (list_of (inserted p k id) j) other ≡ has (list_of p j) other
+  has-inserted_other : (j other : ℕ) → other ≢ id → has (list_of (lists_after_insert p k id) j) other ≡ has (list_of p j) other
   has-inserted_other j other ne = elim (cases_eq j k) [
     | inl same ↦
         let t = ne_eqb other id ne in
@@ -181,13 +181,13 @@ module _ (p : ListsView) (k id : ℕ) (proper : IsProper p)
   ]
 
   -- only list k has the id
-  only_inserted : (j : ℕ) → has (list_of (inserted p k id) j) id ≡ true → j ≡ k
+  only_inserted : (j : ℕ) → has (list_of (lists_after_insert p k id) j) id ≡ true → j ≡ k
   only_inserted j h = elim (cases_eq j k) [
     | inl same ↦ same
     | inr apart ↦ absurd (false≢true (sym (has-nowhere p id j unlinked) ∙ ap (λ xs. has xs id) (sym (list_of-inserted_other j apart)) ∙ h))
   ]
 
-  pub IsProper-inserted : IsProper (inserted p k id)
+  pub IsProper-inserted : IsProper (lists_after_insert p k id)
   IsProper-inserted = record {
     in_range = λ j other h. elim (cases_eq other id) [
       | inl same ↦ rw same id_in_range
@@ -196,34 +196,34 @@ module _ (p : ListsView) (k id : ℕ) (proper : IsProper p)
     once = λ j. elim (cases_eq j k) [
       | inl same ↦
           let first = IsDistinct-first id (list_of p k) (has-nowhere p id k unlinked) (proper.once k) in
-          subst (λ i. IsDistinct nat_eq (list_of (inserted p k id) i)) (sym same) (subst (IsDistinct nat_eq) (sym list_of-inserted) first)
+          subst (λ i. IsDistinct nat_eq (list_of (lists_after_insert p k id) i)) (sym same) (subst (IsDistinct nat_eq) (sym list_of-inserted) first)
       | inr apart ↦ subst (IsDistinct nat_eq) (sym (list_of-inserted_other j apart)) (proper.once j)
     ];
     apart = λ i j other h g. elim (cases_eq other id) [
       | inl same ↦
-          only_inserted i (subst (λ o. has (list_of (inserted p k id) i) o ≡ true) same h)
-          ∙ sym (only_inserted j (subst (λ o. has (list_of (inserted p k id) j) o ≡ true) same g))
+          only_inserted i (subst (λ o. has (list_of (lists_after_insert p k id) i) o ≡ true) same h)
+          ∙ sym (only_inserted j (subst (λ o. has (list_of (lists_after_insert p k id) j) o ≡ true) same g))
       | inr ne ↦ proper.apart i j other (sym (has-inserted_other i other ne) ∙ h) (sym (has-inserted_other j other ne) ∙ g)
     ];
   }
 
-  pub where_of-inserted : SetsOnly p (inserted p k id) id (Some k)
+  pub where_of-inserted : SetsOnly p (lists_after_insert p k id) id (Some k)
   where_of-inserted = record {
-    changed = where_of-has (inserted p k id) id k IsProper-inserted has-inserted;
-    others = λ other ne. where_of-same p (inserted p k id) other IsProper-inserted (λ j. has-inserted_other j other ne);
+    changed = where_of-has (lists_after_insert p k id) id k IsProper-inserted has-inserted;
+    others = λ other ne. where_of-same p (lists_after_insert p k id) other IsProper-inserted (λ j. has-inserted_other j other ne);
   }
 
-  pub next_of-inserted : next_of (inserted p k id) id ≡ first_of p k
+  pub next_of-inserted : next_of (lists_after_insert p k id) id ≡ first_of p k
   next_of-inserted =
       let t = eq-eqb id id refl in
       let e = list_of-inserted in
-      next_of-in (inserted p k id) id k where_of-inserted.changed ∙ ap (after id) e ∙ (grind arith)
+      next_of-in (lists_after_insert p k id) id k where_of-inserted.changed ∙ ap (after id) e ∙ (grind arith)
 
-  pub next_of-inserted_other : (other : ℕ) → other ≢ id → next_of (inserted p k id) other ≡ next_of p other
+  pub next_of-inserted_other : (other : ℕ) → other ≢ id → next_of (lists_after_insert p k id) other ≡ next_of p other
   next_of-inserted_other other ne = elim (cases_option (where_of p other)) [
-    | inl none ↦ next_of-nowhere (inserted p k id) other (where_of-inserted.others other ne ∙ none) ∙ sym (next_of-nowhere p other none)
+    | inl none ↦ next_of-nowhere (lists_after_insert p k id) other (where_of-inserted.others other ne ∙ none) ∙ sym (next_of-nowhere p other none)
     | inr w ↦
-        next_of-in (inserted p k id) other w.0 (where_of-inserted.others other ne ∙ w.1)
+        next_of-in (lists_after_insert p k id) other w.0 (where_of-inserted.others other ne ∙ w.1)
         ∙ elim (cases_eq w.0 k) [
           | inl same ↦
               let t = ne_eqb other id ne in
@@ -236,69 +236,69 @@ module _ (p : ListsView) (k id : ℕ) (proper : IsProper p)
 
 -- an id removed
 module _ (p : ListsView) (id : ℕ) (proper : IsProper p) where
-  pub list_of-removed : (j : ℕ) → list_of (removed p id) j ≡ without id (list_of p j)
+  pub list_of-removed : (j : ℕ) → list_of (lists_after_remove p id) j ≡ without id (list_of p j)
   list_of-removed j = elim (cases_lt j (length p.lists)) [
     | inl within ↦ get_or-map (without id) p.lists j [] [] within
     | inr past ↦ get_or_past (map (without id) p.lists) j [] (simp length-map past) ∙ ap (without id) (sym (list_of_past p j past))
   ]
 
-  has-removed : (j : ℕ) → has (list_of (removed p id) j) id ≡ false
+  has-removed : (j : ℕ) → has (list_of (lists_after_remove p id) j) id ≡ false
   has-removed j = ap (λ xs. has xs id) (list_of-removed j) ∙ without-itself (list_of p j) id
 
-  has-removed_other : (j other : ℕ) → other ≢ id → has (list_of (removed p id) j) other ≡ has (list_of p j) other
+  has-removed_other : (j other : ℕ) → other ≢ id → has (list_of (lists_after_remove p id) j) other ≡ has (list_of p j) other
   has-removed_other j other ne = ap (λ xs. has xs other) (list_of-removed j) ∙ has-without (list_of p j) id other ne
 
   -- what a list has now it had before
-  had : (j other : ℕ) → has (list_of (removed p id) j) other ≡ true → has (list_of p j) other ≡ true
+  had : (j other : ℕ) → has (list_of (lists_after_remove p id) j) other ≡ true → has (list_of p j) other ≡ true
   had j other h = elim (cases_eq other id) [
-    | inl same ↦ absurd (false≢true (sym (has-removed j) ∙ subst (λ o. has (list_of (removed p id) j) o ≡ true) same h))
+    | inl same ↦ absurd (false≢true (sym (has-removed j) ∙ subst (λ o. has (list_of (lists_after_remove p id) j) o ≡ true) same h))
     | inr ne ↦ sym (has-removed_other j other ne) ∙ h
   ]
 
-  pub IsProper-removed : IsProper (removed p id)
+  pub IsProper-removed : IsProper (lists_after_remove p id)
   IsProper-removed = record {
     in_range = λ j other h. proper.in_range j other (had j other h);
     once = λ j. subst (IsDistinct nat_eq) (sym (list_of-removed j)) (IsDistinct-without (list_of p j) id (proper.once j));
     apart = λ i j other h g. proper.apart i j other (had i other h) (had j other g);
   }
 
-  pub where_of-removed : SetsOnly p (removed p id) id None
+  pub where_of-removed : SetsOnly p (lists_after_remove p id) id None
   where_of-removed = record {
-    changed = elim (cases_option (where_of (removed p id) id)) [
+    changed = elim (cases_option (where_of (lists_after_remove p id) id)) [
       | inl none ↦ none
-      | inr w ↦ absurd (false≢true (sym (has-removed w.0) ∙ has-where_of (removed p id) id w.0 w.1))
+      | inr w ↦ absurd (false≢true (sym (has-removed w.0) ∙ has-where_of (lists_after_remove p id) id w.0 w.1))
     ];
-    others = λ other ne. where_of-same p (removed p id) other IsProper-removed (λ j. has-removed_other j other ne);
+    others = λ other ne. where_of-same p (lists_after_remove p id) other IsProper-removed (λ j. has-removed_other j other ne);
   }
 
-  pub next_of-removed : next_of (removed p id) id ≡ None
-  next_of-removed = next_of-nowhere (removed p id) id where_of-removed.changed
+  pub next_of-removed : next_of (lists_after_remove p id) id ≡ None
+  next_of-removed = next_of-nowhere (lists_after_remove p id) id where_of-removed.changed
 
   -- what came next after the removed id comes next after the one before it
-  pub next_of-removed_before : (b : ℕ) → next_of p b ≡ Some id → next_of (removed p id) b ≡ next_of p id
+  pub next_of-removed_before : (b : ℕ) → next_of p b ≡ Some id → next_of (lists_after_remove p id) b ≡ next_of p id
   next_of-removed_before b e =
       let w = next_of-Some p b id e in
       let apart : b ≢ id = λ same. after-apart (list_of p w.0) id (proper.once w.0) (subst (λ x. after x (list_of p w.0) ≡ Some id) same w.2) in
-      next_of-in (removed p id) b w.0 (where_of-removed.others b apart ∙ w.1)
+      next_of-in (lists_after_remove p id) b w.0 (where_of-removed.others b apart ∙ w.1)
       ∙ ap (after b) (list_of-removed w.0)
       ∙ after-without (list_of p w.0) id b (proper.once w.0) w.2
       ∙ sym (next_of-in p id w.0 (where_of-next p b id w.0 proper w.1 e))
 
-  pub next_of-removed_other : (other : ℕ) → other ≢ id → (next_of p other ≡ Some id → ⊥) → next_of (removed p id) other ≡ next_of p other
+  pub next_of-removed_other : (other : ℕ) → other ≢ id → (next_of p other ≡ Some id → ⊥) → next_of (lists_after_remove p id) other ≡ next_of p other
   next_of-removed_other other ne nf = elim (cases_option (where_of p other)) [
-    | inl none ↦ next_of-nowhere (removed p id) other (where_of-removed.others other ne ∙ none) ∙ sym (next_of-nowhere p other none)
+    | inl none ↦ next_of-nowhere (lists_after_remove p id) other (where_of-removed.others other ne ∙ none) ∙ sym (next_of-nowhere p other none)
     | inr w ↦
-        next_of-in (removed p id) other w.0 (where_of-removed.others other ne ∙ w.1)
+        next_of-in (lists_after_remove p id) other w.0 (where_of-removed.others other ne ∙ w.1)
         ∙ ap (after other) (list_of-removed w.0)
         ∙ after-without_other (list_of p w.0) id other (proper.once w.0) ne (λ e. nf (next_of-in p other w.0 w.1 ∙ e))
         ∙ sym (next_of-in p other w.0 w.1)
   ]
 
-  pub first_of-removed : (k : ℕ) → first_of p k ≡ Some id → first_of (removed p id) k ≡ next_of p id
+  pub first_of-removed : (k : ℕ) → first_of p k ≡ Some id → first_of (lists_after_remove p id) k ≡ next_of p id
   first_of-removed k e =
       ap (λ (xs : List ℕ). slice_get xs 0) (list_of-removed k)
       ∙ first-without (list_of p k) id (proper.once k) e
       ∙ sym (next_of-in p id k (where_of-first p k id proper e))
 
-  pub first_of-removed_other : (k : ℕ) → (first_of p k ≡ Some id → ⊥) → first_of (removed p id) k ≡ first_of p k
+  pub first_of-removed_other : (k : ℕ) → (first_of p k ≡ Some id → ⊥) → first_of (lists_after_remove p id) k ≡ first_of p k
   first_of-removed_other k nf = ap (λ (xs : List ℕ). slice_get xs 0) (list_of-removed k) ∙ first-without_other (list_of p k) id nf

@@ -43,12 +43,12 @@ abbrev pub empty_pool : ℕ → ℕ → ListsView
 empty_pool ids lists = record { ids = ids; lists = replicate lists [] }
 
 -- the id is now the first of list k
-abbrev pub inserted : ListsView → ℕ → ℕ → ListsView
-inserted p k id = record { ids = p.ids; lists = slice_set p.lists k (id ∷ list_of p k) }
+abbrev pub lists_after_insert : ListsView → ℕ → ℕ → ListsView
+lists_after_insert p k id = record { ids = p.ids; lists = slice_set p.lists k (id ∷ list_of p k) }
 
 -- the id is now in no list
-abbrev pub removed : ListsView → ℕ → ListsView
-removed p id = record { ids = p.ids; lists = map (without id) p.lists }
+abbrev pub lists_after_remove : ListsView → ℕ → ListsView
+lists_after_remove p id = record { ids = p.ids; lists = map (without id) p.lists }
 
 -- each id in a list is one of the pool's, and is in that list once and in no other
 pub record IsProper (p : ListsView) : Type 0 where

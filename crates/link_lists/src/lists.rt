@@ -1,7 +1,7 @@
 ghost use Rattle.std.specs.Prelude.{◌≡◌, ℕ, ◌+◌, ◌<◌, ◌↔◌, false, [], length, None, IsSome, IsTrue, IfOk, IfSome};
 ghost use Rattle.std.specs.Prelude.{slice_get};
 ghost use Rattle.std.specs.Option.{ForSome};
-ghost use Rattle.link_lists.specs.Pool.{has, list_of, where_of, first_of, next_of, empty_pool, inserted, removed};
+ghost use Rattle.link_lists.specs.Pool.{has, list_of, where_of, first_of, next_of, empty_pool, lists_after_insert, lists_after_remove};
 ghost use Rattle.link_lists.specs.Pool.{IsProper, SetsOnly};
 ghost use Rattle.link_lists.specs.Links.{with_link};
 
@@ -65,7 +65,7 @@ impl Lists {
         requires list_in_range { list < length self.old.lists }
         requires id_in_range { id < self.old.ids }
         requires unlinked { where_of self.old id ≡ None }
-        ensures lists { self.new ≡ inserted self.old list id }
+        ensures lists { self.new ≡ lists_after_insert self.old list id }
         ensures place { SetsOnly self.old self.new id (Some list) }
         ensures proper { IsProper self.new }
     {
@@ -81,7 +81,7 @@ impl Lists {
     /// Takes the id out of its list. The others keep their order.
     pub fn remove(&mut self, id: u16)
         requires { IsSome (where_of self.old id) }
-        ensures lists { self.new ≡ removed self.old id }
+        ensures lists { self.new ≡ lists_after_remove self.old id }
         ensures place { SetsOnly self.old self.new id None }
         ensures proper { IsProper self.new }
     {
@@ -171,7 +171,7 @@ mod tests {
 
     /// Two lists over four ids, with 3 and then 0 put in list 1.
     fn filled(alloc: Global) -> Result<Lists, Fail>
-        ensures { IfOk result (λ made. made ≡ inserted (inserted (empty_pool 4 2) 1 3) 1 0) }
+        ensures { IfOk result (λ made. made ≡ lists_after_insert (lists_after_insert (empty_pool 4 2) 1 3) 1 0) }
     {
         let mut lists = Lists::new(alloc, 4, 2)?;
         lists.insert(1, 3);

@@ -13,7 +13,7 @@ use Rattle.frame_phases.specs.Servers.{ServerView}
 use Rattle.demo_make.specs.GeneratedMap.{generated_map}
 use Rattle.demo_make.specs.GeneratedFrames.{arrivals_in, generated_frames, generated_events}
 use Rattle.match_play.specs.declared.totals.Totals.{Totals}
-use Rattle.out_text.specs.Collecting.{closing}
+use Rattle.out_text.specs.Collecting.{closed_frames}
 use Rattle.playback.specs.Playbacks.{Course, GoesOn, IsReady, entries_if}
 use Rattle.match_play.specs.Games.{GameView, Plays, new_game, journals_after, totals_after}
 use Rattle.match_play.specs.Matches.{HasEachJournal, entries_of}
@@ -26,9 +26,9 @@ with_packet a o = option_map (λ arrivals. arrivals ++ a ∷ []) o
 -- the frames that these events close, where these packets are those of the frame that is open
 abbrev pub closed_by : Option (List Arrival) → List Event → List (List Arrival)
 closed_by o [] = []
-closed_by o (Frame ∷ events) = closing o ++ closed_by (Some []) events
+closed_by o (Frame ∷ events) = closed_frames o ++ closed_by (Some []) events
 closed_by o (From a ∷ events) = closed_by (option_map (λ arrivals. arrivals ++ a ∷ []) o) events
-closed_by o (End ∷ events) = closing o ++ closed_by None events
+closed_by o (End ∷ events) = closed_frames o ++ closed_by None events
 
 packets-kept : (opened arrivals : List Arrival) (events : List Event) → closed_by (Some opened) (map_list From arrivals ++ events) ≡ closed_by (Some (opened ++ arrivals)) events
 packets-kept opened [] events = ap (λ (xs : List Arrival). closed_by (Some xs) events) (sym (append-nil opened))

@@ -4,7 +4,7 @@ use Rattle.std.proofs.lemmas.List.{length_push}
 use Rattle.entity_recs.specs.declared.effect.Entry.{Entry}
 use Rattle.packet_read.specs.declared.move_packet.MovePacket.{MovePacket}
 use Rattle.packet_read.specs.declared.packet.Packet.{Packet}
-use Rattle.packet_read.specs.declared.packet.Packet.TheVariants.{Join, Step, Leave, Steps}
+use Rattle.packet_read.specs.declared.packet.Packet.TheVariants.{Join, Move, Leave, Moves}
 use Rattle.packet_read.specs.declared.packet_fault.PacketFault.{PacketFault}
 use Rattle.packet_read.specs.Commands.{commands_of}
 use Rattle.packet_read.specs.Reading.{reading}
@@ -15,7 +15,7 @@ use Rattle.client_ports.specs.declared.received.Joined.{Joined}
 use Rattle.client_ports.specs.declared.received.Refused.{Refused}
 use Rattle.client_ports.specs.declared.refusal.Refusal.{Refusal}
 use Rattle.client_ports.specs.declared.refusal.Refusal.TheVariants as refusal
-use Rattle.client_ports.specs.declared.spawns.Place.{Place}
+use Rattle.client_ports.specs.declared.spawns.JoinPoint.{JoinPoint}
 use Rattle.client_ports.specs.Answers.{join_answer, leave_answer, move_answer}
 use Rattle.client_ports.specs.States.{State}
 use Rattle.client_ports.specs.Lists.{Lists, no_lists}
@@ -33,7 +33,7 @@ HasOneMore r next = size next.lists ≤ size r.lists + 1
 one_refused : (r : Receiving) (place : ℕ) (why : Refusal) → length (r.lists.refused ++ record { place = place; why = why } ∷ []) ≡ length r.lists.refused + 1
 one_refused r place why = let x : Refused = record { place = place; why = why } in length_push r.lists.refused x
 
-few_join : (to : Result Place Refusal) (r : Receiving) (place port : ℕ) → HasOneMore r (after_join to r place port)
+few_join : (to : Result JoinPoint Refusal) (r : Receiving) (place port : ℕ) → HasOneMore r (after_join to r place port)
 few_join (Err why) r place port = omega (arith, one_refused r place why)
 few_join (Ok to) r place port =
     let x : Joined = record { port = port; slot = to.slot } in omega (arith, length_push r.lists.joined x)
@@ -49,8 +49,8 @@ few_move (Ok live) frame steps r place = omega arith
 few_packet : (read : Result Packet PacketFault) (map_view : MapView) (frame : ℕ) (r : Receiving) (place port : ℕ) → HasOneMore r (after_packet map_view frame read r place port)
 few_packet (Err why) map_view frame r place port = omega (arith, one_refused r place (refusal.Packet why))
 few_packet (Ok Join) map_view frame r place port = few_join (join_answer map_view r.state port) r place port
-few_packet (Ok (Step m)) map_view frame r place port = few_move (move_answer r.state.clients port (commands_of (Step m))) frame (commands_of (Step m)) r place
-few_packet (Ok (Steps s)) map_view frame r place port = few_move (move_answer r.state.clients port (commands_of (Steps s))) frame (commands_of (Steps s)) r place
+few_packet (Ok (Move m)) map_view frame r place port = few_move (move_answer r.state.clients port (commands_of (Move m))) frame (commands_of (Move m)) r place
+few_packet (Ok (Moves s)) map_view frame r place port = few_move (move_answer r.state.clients port (commands_of (Moves s))) frame (commands_of (Moves s)) r place
 few_packet (Ok Leave) map_view frame r place port = few_leave (leave_answer r.state.clients port) r place
 
 few_arrivals : (map_view : MapView) (frame : ℕ) (r : Receiving) (place : ℕ) (arrivals : List Arrival) → size (after_arrivals map_view frame r place arrivals).lists ≤ size r.lists + length arrivals

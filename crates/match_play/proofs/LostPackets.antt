@@ -31,7 +31,7 @@ use Rattle.demo_make.proofs.ResentKept.{resent-back}
 use Rattle.out_text.specs.Collecting.{frames_of}
 use Rattle.out_text.specs.FrameLines.{lines_with, run_lines}
 use Rattle.out_text.specs.Journals.{dids}
-use Rattle.out_text.specs.OutLines.{OutLine, FrameLine, FromLine, NoLine, JoinedLine, DidLine, ToLine, EndLine, spelled, text_of}
+use Rattle.out_text.specs.OutLines.{OutLine, FrameLine, FromLine, NoLine, JoinedLine, DidLine, ToLine, EndLine, line_spelling, text_of}
 use Rattle.out_text.specs.Output.{lines_in, AreRightIn, IsOutput}
 use Rattle.out_text.specs.PacketLines.{refusals_in}
 use Rattle.out_text.specs.Reading.{line_in}
@@ -162,10 +162,10 @@ first-byte [] = 0
 first-byte (b ∷ bytes) = b
 
 -- a line that is no `no` line isn't read as one
-unread : (line : OutLine) → refusals_in (line ∷ []) ≡ [] → is_no_line (line_in (spelled line)) ≡ false
-unread line quiet = by (line_in (spelled line)) refl
+unread : (line : OutLine) → refusals_in (line ∷ []) ≡ [] → is_no_line (line_in (line_spelling line)) ≡ false
+unread line quiet = by (line_in (line_spelling line)) refl
   where
-    differ : (place : ℕ) (why : Refusal) (l : OutLine) → refusals_in (l ∷ []) ≡ [] → spelled l ≡ spelled (NoLine place why) → ⊥
+    differ : (place : ℕ) (why : Refusal) (l : OutLine) → refusals_in (l ∷ []) ≡ [] → line_spelling l ≡ line_spelling (NoLine place why) → ⊥
     differ place why (FrameLine frame) q e = let h : 102 ≡ 110 = ap first-byte e in omega (arith, h)
     differ place why (FromLine port bytes) q e = let h : 102 ≡ 110 = ap first-byte e in omega (arith, h)
     differ place why (NoLine other reason) q e = cc
@@ -174,11 +174,11 @@ unread line quiet = by (line_in (spelled line)) refl
     differ place why (ToLine slot bytes) q e = let h : 116 ≡ 110 = ap first-byte e in omega (arith, h)
     differ place why (EndLine frames) q e = let h : 101 ≡ 110 = ap first-byte e in omega (arith, h)
 
-    by : (o : Option OutLine) → line_in (spelled line) ≡ o → is_no_line o ≡ false
+    by : (o : Option OutLine) → line_in (line_spelling line) ≡ o → is_no_line o ≡ false
     by None e = refl
     by (Some (FrameLine frame)) e = refl
     by (Some (FromLine port bytes)) e = refl
-    by (Some (NoLine place why)) e = absurd (differ place why line quiet (line-sound (spelled line) (NoLine place why) e).spelled)
+    by (Some (NoLine place why)) e = absurd (differ place why line quiet (line-sound (line_spelling line) (NoLine place why) e).spelled)
     by (Some (JoinedLine port slot)) e = refl
     by (Some (DidLine did)) e = refl
     by (Some (ToLine slot bytes)) e = refl
@@ -197,15 +197,15 @@ refusals-tail (EndLine frames) lines none = (refl, none)
 abbrev IsUnread : List ℕ → Type 0
 IsUnread bytes = is_no_line (line_in bytes) ≡ false
 
-all-unread : (lines : List OutLine) → refusals_in lines ≡ [] → All (λ line. IsUnread (spelled line)) lines
-all-unread [] none = All-nil (λ line. IsUnread (spelled line))
+all-unread : (lines : List OutLine) → refusals_in lines ≡ [] → All (λ line. IsUnread (line_spelling line)) lines
+all-unread [] none = All-nil (λ line. IsUnread (line_spelling line))
 all-unread (line ∷ lines) none =
     let parts = refusals-tail line lines none in
-    All-cons (λ line. IsUnread (spelled line)) line lines (unread line parts.0) (all-unread lines parts.1)
+    All-cons (λ line. IsUnread (line_spelling line)) line lines (unread line parts.0) (all-unread lines parts.1)
 
 no-refusal : (lines : List OutLine) → refusals_in lines ≡ [] → HasNoRefusal (text_of lines)
 no-refusal lines none =
-    subst (All IsUnread) (sym (whole_lines-text lines)) (All-map IsUnread spelled lines (all-unread lines none))
+    subst (All IsUnread) (sym (whole_lines-text lines)) (All-map IsUnread line_spelling lines (all-unread lines none))
 
 module _ (seed players frames : ℕ) (range : IsInRange players frames) where
   abbrev bytes : List ℕ

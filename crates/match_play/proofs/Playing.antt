@@ -16,7 +16,7 @@ use Rattle.plain_server.specs.RecordsById.{opening}
 use Rattle.plain_server.specs.Frames.{received_in, state_after, state_played, IsRightAfter, AreRight, AreInOrder}
 use Rattle.frame_phases.specs.Servers.{ServerView, server_view, server_after, new_server}
 use Rattle.frame_phases.specs.Scores.{score_in}
-use Rattle.out_text.specs.Collecting.{closing}
+use Rattle.out_text.specs.Collecting.{closed_frames}
 use Rattle.out_text.proofs.Runs.{state_played-push, right-push, in_order-push}
 use Rattle.demo_make.specs.GeneratedMap.{generated_map}
 use Rattle.demo_make.specs.GeneratedFrames.{join_from, move_from, moves_in, arrivals_in, generated_frames, joins_in as frame_joins, ports}
@@ -197,7 +197,7 @@ module _ (seed players : ℕ) where
 
   -- the frame that was open was run, where one was
   pub under_way-closed : (workers frames : ℕ) (old new : ServerView) (before : Totals) (journals : List JournalView) (o : Option (List Arrival)) (closed : Option JournalView) (left : List (List Arrival))
-      → IsUnderWay workers frames old before (entries_of journals) (closing o ++ left) → Closes workers old new o (entries_if closed)
+      → IsUnderWay workers frames old before (entries_of journals) (closed_frames o ++ left) → Closes workers old new o (entries_if closed)
       → IsUnderWay workers frames new (totals_after before old new o closed) (entries_of (journals_after journals closed)) left
   under_way-closed workers frames old new before journals None None left under same =
       subst (λ (t : ServerView). IsUnderWay workers frames t before (entries_of journals) left) (sym same) under
@@ -218,7 +218,7 @@ module _ (seed players : ℕ) where
 
   -- a frame that is open may be closed
   pub may_close : (workers frames : ℕ) (g : GameView) (o : Option (List Arrival)) (left : List (List Arrival)) → g.course.opened ≡ o → players ≤ 64 → frames ≤ 100000
-      → IsUnderWay workers frames g.course.server g.totals (entries_of g.journals) (closing o ++ left) → MayClose g.course
+      → IsUnderWay workers frames g.course.server g.totals (entries_of g.journals) (closed_frames o ++ left) → MayClose g.course
   may_close workers frames g None left is few_players few_frames under = record {
     few = subst (λ (o : Option (List Arrival)). IfSome o (λ arrivals. length arrivals ≤ 512)) (sym is) tt;
     frames = subst (λ (o : Option (List Arrival)). IfSome o (λ _. g.course.server.frames < 100000)) (sym is) tt;

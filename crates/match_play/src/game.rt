@@ -12,13 +12,13 @@ use std::thread::Threads;
 /// The game of a match: its playback, and of the frames so far what they come to and the journals. There are as many
 /// journals as the server has run frames.
 #[derive(Drop)]
-pub struct Game {
+pub struct MatchGame {
     playback: Playback,
     totals: Totals,
     journals: Vec<Journal>,
 }
 
-impl Model for Game {
+impl Model for MatchGame {
     ghost use Rattle.std.specs.Prelude.{◌≡◌, length};
     ghost use Rattle.match_play.specs.Totals.{AreBounded};
     ghost use Rattle.match_play.specs.Games.{GameView};
@@ -31,7 +31,7 @@ impl Model for Game {
         × (length g.journals.items ≡ g.playback.course.server.frames) };
 }
 
-impl Game {
+impl MatchGame {
     ghost use Rattle.std.specs.Prelude.{◌≡◌, length, IfOk, OnOk, OnErr};
     ghost use Rattle.demo_make.specs.GeneratedMap.{generated_map};
     ghost use Rattle.playback.specs.Playbacks.{IsReady};
@@ -39,10 +39,10 @@ impl Game {
 
     /// A game in the arena of all matches, before the first event. It takes all memory but that for the packets, the
     /// moves and the journals of frames. The only error is that memory is refused.
-    pub fn new(alloc: Global) -> Result<Game, AllocError>
+    pub fn new(alloc: Global) -> Result<MatchGame, AllocError>
         ensures { IfOk result (λ game. game ≡ new_game generated_map) }
     {
-        Ok(Game {
+        Ok(MatchGame {
             playback: Playback::new(alloc, generated_map(alloc)?)?,
             totals: Totals::new(),
             journals: Vec::new(alloc),
@@ -61,7 +61,7 @@ impl Game {
         ensures all { result ≡ self.journals }
         ensures each { length result ≡ self.course.server.frames }
     {
-        let Game {
+        let MatchGame {
             playback: _playback,
             totals: _totals,
             journals,

@@ -3,7 +3,7 @@ ghost use Rattle.demo_make.specs.GeneratedMap.{generated_map};
 ghost use Rattle.match_play.specs.Games.{new_game};
 ghost use Rattle.match_play.specs.Matches.{IsMatch, HasEachJournal, match_totals, entries_of};
 
-use crate::game::Game;
+use crate::game::MatchGame;
 use crate::totals::Totals;
 use demo_make::Generator;
 use playback::Host;
@@ -24,7 +24,7 @@ pub fn play_match<R: Threads + Wait + Sync, G: Gate>(
     seed: u64,
     players: u8,
     frames: u32,
-    game: &mut Game,
+    game: &mut MatchGame,
 ) -> Result<Totals, AllocError>
     requires range { IsMatch players frames }
     requires fresh { game.old ≡ new_game generated_map }

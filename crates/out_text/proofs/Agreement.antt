@@ -12,7 +12,7 @@ use Rattle.demo_lines.specs.Known.{Reading, is_over, at_stage, with_map, with_fr
 use Rattle.demo_lines.specs.Recording.{next, after_line, event_of, events_of_line, after, events_of, with_map_line}
 use Rattle.demo_lines.proofs.Machines.{run_of-append}
 use Rattle.demo_lines.proofs.Taking.{IsTaken}
-use Rattle.out_text.specs.Collecting.{Frames, collect, closing}
+use Rattle.out_text.specs.Collecting.{Frames, collect, closed_frames}
 use Rattle.out_text.proofs.EachLine.{of_each_line}
 
 -- no frame was opened
@@ -48,7 +48,7 @@ first_frame r f none = record {
   arrivals = [];
   opened = refl;
   count = refl;
-  frames = omega (arith, length-append f.closed (closing f.opened), ap length none.closed, ap (λ o. length (closing o)) none.opened, none.frames);
+  frames = omega (arith, length-append f.closed (closed_frames f.opened), ap length none.closed, ap (λ o. length (closed_frames o)) none.opened, none.frames);
 }
 
 next_frame : (r : Reading) (f : Frames) → OneOpen r f → OneOpen (with_frame r) (collect f events.Frame)
@@ -56,7 +56,7 @@ next_frame r f one = record {
   arrivals = [];
   opened = refl;
   count = refl;
-  frames = omega (arith, length-append f.closed (closing f.opened), ap (λ o. length (closing o)) one.opened, one.frames);
+  frames = omega (arith, length-append f.closed (closed_frames f.opened), ap (λ o. length (closed_frames o)) one.opened, one.frames);
 }
 
 one_arrival : (r : Reading) (f : Frames) (a : Arrival) → OneOpen r f → OneOpen (with_arrival r) (collect f (events.From a))
@@ -70,13 +70,13 @@ one_arrival r f a one = record {
 end_without : (r : Reading) (f : Frames) → NoneYet r f → AllClosed (at_stage Ended r) (collect f events.End)
 end_without r f none = record {
   opened = refl;
-  frames = omega (arith, length-append f.closed (closing f.opened), ap length none.closed, ap (λ o. length (closing o)) none.opened, none.frames);
+  frames = omega (arith, length-append f.closed (closed_frames f.opened), ap length none.closed, ap (λ o. length (closed_frames o)) none.opened, none.frames);
 }
 
 end_after_one : (r : Reading) (f : Frames) → OneOpen r f → AllClosed (at_stage Ended r) (collect f events.End)
 end_after_one r f one = record {
   opened = refl;
-  frames = omega (arith, length-append f.closed (closing f.opened), ap (λ o. length (closing o)) one.opened, one.frames);
+  frames = omega (arith, length-append f.closed (closed_frames f.opened), ap (λ o. length (closed_frames o)) one.opened, one.frames);
 }
 
 none_still : (r t : Reading) (f : Frames) → t.frames ≡ r.frames → NoneYet r f → NoneYet t f

@@ -14,7 +14,7 @@ use Rattle.demo_lines.specs.Known.{Reading, start_within}
 use Rattle.demo_lines.specs.Recording.{next, event_of, events_of_line, events_of}
 use Rattle.demo_lines.specs.Bytes.{lines_of, events_within}
 use Rattle.plain_server.specs.Entries.{HasBytes}
-use Rattle.out_text.specs.Collecting.{Frames, closing, collect, no_frames, frames_within, frames_of}
+use Rattle.out_text.specs.Collecting.{Frames, closed_frames, collect, no_frames, frames_within, frames_of}
 use Rattle.out_text.proofs.Reporting.{HaveBytes}
 use Rattle.out_text.proofs.Growing.{GoesOnWith}
 use Rattle.out_text.proofs.Saying.{IsSound}
@@ -61,7 +61,7 @@ frames_both : (xs ys : List (List Arrival)) → HaveBytes xs → HaveBytes ys �
 frames_both [] ys p q = q
 frames_both (x ∷ xs) ys p q = (p.0, frames_both xs ys p.1 q)
 
-closing_has_bytes : (o : Option (List Arrival)) → IfSome o (All HasBytes) → HaveBytes (closing o)
+closing_has_bytes : (o : Option (List Arrival)) → IfSome o (All HasBytes) → HaveBytes (closed_frames o)
 closing_has_bytes None p = tt
 closing_has_bytes (Some arrivals) p = (p, tt)
 
@@ -72,10 +72,10 @@ opened_with (Some arrivals) a p q = All-push HasBytes arrivals a p q
 
 collect_has_bytes : (f : Frames) (e : Event) → FramesBytes f → EventBytes e → FramesBytes (collect f e)
 collect_has_bytes f events.Frame p q =
-    record { closed = frames_both f.closed (closing f.opened) p.closed (closing_has_bytes f.opened p.opened); opened = All-nil HasBytes }
+    record { closed = frames_both f.closed (closed_frames f.opened) p.closed (closing_has_bytes f.opened p.opened); opened = All-nil HasBytes }
 collect_has_bytes f (events.From a) p q = record { closed = p.closed; opened = opened_with f.opened a p.opened q }
 collect_has_bytes f events.End p q =
-    record { closed = frames_both f.closed (closing f.opened) p.closed (closing_has_bytes f.opened p.opened); opened = tt }
+    record { closed = frames_both f.closed (closed_frames f.opened) p.closed (closing_has_bytes f.opened p.opened); opened = tt }
 
 run_has_bytes : (f : Frames) (es : List Event) → FramesBytes f → EventsBytes es → FramesBytes (run_of collect f es)
 run_has_bytes f [] p q = p

@@ -35,7 +35,7 @@ use Rattle.plain_server.proofs.Reports.{right_is_reported}
 use Rattle.plain_server.proofs.Frames.{opening_is, received_is, moved_by_is, state_after_is}
 use Rattle.plain_server.proofs.Ticking.{server_ticked}
 use Rattle.plain_server.proofs.SlotPlayers.{players_are_first, few_first}
-use Rattle.out_text.specs.OutLines.{OutLine, FrameLine, EndLine, printed, text_of}
+use Rattle.out_text.specs.OutLines.{OutLine, FrameLine, EndLine, printed_line, text_of}
 use Rattle.out_text.specs.FrameLines.{no_line, joined_line, did_line, to_lines, lines_with, run_lines}
 use Rattle.out_text.specs.Collecting.{frames_of}
 use Rattle.out_text.specs.Output.{lines_in, AreRightIn}
@@ -51,7 +51,7 @@ use Rattle.out_text.proofs.Lengths.{length-lines, length-line, frame_line-long, 
 -- ---- what was received
 
 -- the lines of one thing more
-push-long : {X : Type 0} (f : X → OutLine) (xs : List X) (x : X) → length (text_of (map f (xs ++ x ∷ []))) ≡ length (text_of (map f xs)) + length (printed (f x))
+push-long : {X : Type 0} (f : X → OutLine) (xs : List X) (x : X) → length (text_of (map f (xs ++ x ∷ []))) ≡ length (text_of (map f xs)) + length (printed_line (f x))
 push-long f [] x = omega (arith, length-line (f x) [])
 push-long f (y ∷ xs) x = omega (arith, length-line (f y) (map f (xs ++ x ∷ [])), length-line (f y) (map f xs), push-long f xs x)
 

@@ -7,7 +7,7 @@ use Rattle.std.proofs.KnownBytes.{Appends-nil, Appends-trans}
 use Rattle.std.proofs.lemmas.List.{take-append-le}
 use lib.Seq.{take-append-add}
 use Rattle.edge_io.specs.Counts.{HasRisen}
-use Rattle.out_text.specs.OutLines.{OutLine, ToLine, printed, text_of}
+use Rattle.out_text.specs.OutLines.{OutLine, ToLine, printed_line, text_of}
 use Rattle.out_text.specs.FrameLines.{reply_lines}
 use Rattle.out_text.specs.Printers.{Prints, FailsIn}
 
@@ -125,34 +125,34 @@ module _ {S : Type 0} (taken : S → Option (List ℕ)) (faults room : S → ℕ
   fails_last (Err e) a b c p q t all so_far last = fails_at a b c p q t all [] so_far last
 
 -- what is left of things of which a line each is printed
-pub left_of_each : {X : Type 0} (f : X → OutLine) (xs : List X) (i : ℕ) (d : X) → i < length xs → text_of (map f (drop i xs)) ≡ printed (f (get_or xs i d)) ++ text_of (map f (drop (i + 1) xs))
+pub left_of_each : {X : Type 0} (f : X → OutLine) (xs : List X) (i : ℕ) (d : X) → i < length xs → text_of (map f (drop i xs)) ≡ printed_line (f (get_or xs i d)) ++ text_of (map f (drop (i + 1) xs))
 left_of_each f xs i d inside =
     let next : drop (i + 1) xs ≡ drop (suc i) xs = rw add-one refl in
-    ap (λ l. text_of (map f l)) (drop-cons xs i d inside) ∙ ap (λ l. printed (f (get_or xs i d)) ++ text_of (map f l)) (sym next)
+    ap (λ l. text_of (map f l)) (drop-cons xs i d inside) ∙ ap (λ l. printed_line (f (get_or xs i d)) ++ text_of (map f l)) (sym next)
 
 -- what is left of replies
 pub left_of_replies : (slots : List ℕ) (replies : List (List ℕ)) (i d : ℕ) (e : List ℕ) → i < length slots → length slots ≡ length replies
-    → text_of (reply_lines (drop i slots) (drop i replies)) ≡ printed (ToLine (get_or slots i d) (get_or replies i e)) ++ text_of (reply_lines (drop (i + 1) slots) (drop (i + 1) replies))
+    → text_of (reply_lines (drop i slots) (drop i replies)) ≡ printed_line (ToLine (get_or slots i d) (get_or replies i e)) ++ text_of (reply_lines (drop (i + 1) slots) (drop (i + 1) replies))
 left_of_replies slots replies i d e inside same =
     let inside' : i < length replies = omega (arith, inside, same) in
     let next : drop (i + 1) slots ≡ drop (suc i) slots = rw add-one refl in
     let next' : drop (i + 1) replies ≡ drop (suc i) replies = rw add-one refl in
     (λ k. text_of (reply_lines (drop-cons slots i d inside k) (drop-cons replies i e inside' k)))
-    ∙ (λ k. printed (ToLine (get_or slots i d) (get_or replies i e)) ++ text_of (reply_lines (sym next k) (sym next' k)))
+    ∙ (λ k. printed_line (ToLine (get_or slots i d) (get_or replies i e)) ++ text_of (reply_lines (sym next k) (sym next' k)))
 
 -- the text of four lists of lines
 pub text_of-answers : (a b c d : List OutLine) → text_of (a ++ b ++ c ++ d) ≡ text_of a ++ (text_of b ++ (text_of c ++ (text_of d ++ [])))
 text_of-answers a b c d =
-    flat_map-append printed (a ++ b ++ c) d
-    ∙ ap (λ l. l ++ text_of d) (flat_map-append printed (a ++ b) c ∙ ap (λ l. l ++ text_of c) (flat_map-append printed a b))
+    flat_map-append printed_line (a ++ b ++ c) d
+    ∙ ap (λ l. l ++ text_of d) (flat_map-append printed_line (a ++ b) c ∙ ap (λ l. l ++ text_of c) (flat_map-append printed_line a b))
     ∙ append_assoc (text_of a ++ text_of b) (text_of c) (text_of d)
     ∙ append_assoc (text_of a) (text_of b) (text_of c ++ text_of d)
     ∙ ap (λ l. text_of a ++ (text_of b ++ (text_of c ++ l))) (sym (append-nil (text_of d)))
 
 -- of a line and a list of lines
-pub text_of-two : (first : OutLine) (a : List OutLine) → text_of (first ∷ a) ≡ printed first ++ (text_of a ++ [])
-text_of-two first a = ap (λ l. printed first ++ l) (sym (append-nil (text_of a)))
+pub text_of-two : (first : OutLine) (a : List OutLine) → text_of (first ∷ a) ≡ printed_line first ++ (text_of a ++ [])
+text_of-two first a = ap (λ l. printed_line first ++ l) (sym (append-nil (text_of a)))
 
 -- and of a line and two lists
-pub text_of-three : (first : OutLine) (a b : List OutLine) → text_of (first ∷ (a ++ b)) ≡ printed first ++ (text_of a ++ (text_of b ++ []))
-text_of-three first a b = ap (λ l. printed first ++ l) (flat_map-append printed a b ∙ ap (λ l. text_of a ++ l) (sym (append-nil (text_of b))))
+pub text_of-three : (first : OutLine) (a b : List OutLine) → text_of (first ∷ (a ++ b)) ≡ printed_line first ++ (text_of a ++ (text_of b ++ []))
+text_of-three first a b = ap (λ l. printed_line first ++ l) (flat_map-append printed_line a b ∙ ap (λ l. text_of a ++ l) (sym (append-nil (text_of b))))

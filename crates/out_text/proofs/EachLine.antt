@@ -9,7 +9,7 @@ use Rattle.demo_lines.specs.declared.event.Event.{Event}
 use Rattle.demo_lines.specs.Known.{Reading, is_over, at_stage}
 use Rattle.demo_lines.specs.Lines.{line_in}
 use Rattle.demo_lines.specs.Faults.{is_long, fault_of}
-use Rattle.demo_lines.specs.Said.{line_said, place_fault}
+use Rattle.demo_lines.specs.Said.{line_said, stage_fault}
 use Rattle.demo_lines.specs.Recording.{next, after_line, after_test, event_of, events_of_test, events_of_line}
 use Rattle.demo_lines.proofs.Ends.{fault_of-long}
 use Rattle.demo_lines.proofs.OnePass.{fault_said, fault-said, line-said}
@@ -24,7 +24,7 @@ pub record IsTakenBy (r : Reading) (line : Line) : Type 0 where
   pub sound : IsSound line
   pub fits : FitsLine line
   pub taken : IsTaken r.stage line
-  pub faultless : place_fault r line ≡ None
+  pub faultless : stage_fault r line ≡ None
 
 -- P of what is known before a line and after it, and of its events
 module _ (P : Reading → Reading → List Event → Type 0) (ignored : (r : Reading) → P r r [])
@@ -33,7 +33,7 @@ module _ (P : Reading → Reading → List Event → Type 0) (ignored : (r : Rea
   abbrev Holds : Reading → Option LineFault → Option Line → Type 0
   Holds r fault line = P r (after_test r fault line) (events_of_test fault line)
 
-  by_place : (r : Reading) (line : Line) (fault : Option LineFault) → is_over r.stage ≡ false → IsSound line → FitsLine line → IsTaken r.stage line → place_fault r line ≡ fault
+  by_place : (r : Reading) (line : Line) (fault : Option LineFault) → is_over r.stage ≡ false → IsSound line → FitsLine line → IsTaken r.stage line → stage_fault r line ≡ fault
       → Holds r fault (Some line)
   by_place r line None going sound fits is none = taken r line (record { going = going; sound = sound; fits = fits; taken = is; faultless = none })
   by_place r line (Some why) going sound fits is some = refused r why
@@ -44,7 +44,7 @@ module _ (P : Reading → Reading → List Event → Type 0) (ignored : (r : Rea
       let here = says l refl in
       let known : IsSound l = subst (λ o. IfSome o IsSound) here sound in
       let short : FitsLine l = subst (λ o. IfSome o FitsLine) here fits in
-      subst (λ f. Holds r f line) (sym is) (subst (Holds r (place_fault r l)) (sym here) (by_place r l (place_fault r l) going known short taken_there refl))
+      subst (λ f. Holds r f line) (sym is) (subst (Holds r (stage_fault r l)) (sym here) (by_place r l (stage_fault r l) going known short taken_there refl))
   by_saying r fault line (Err why) going is says sound fits taken_there = subst (λ f. Holds r f line) (sym is) (refused r why)
 
   by_length : (r : Reading) (raw : List ℕ) (long : Bool) → is_over r.stage ≡ false → is_long raw ≡ long → Holds r (fault_of r false raw) (line_in raw)

@@ -12,7 +12,7 @@ use Rattle.plain_server.specs.Frames.{received_in, state_after, IsRightAfter, Ar
 use Rattle.plain_server.proofs.Frames.{opening_is, received_is, state_after_is}
 use Rattle.demo_lines.specs.Bytes.{map_of}
 use Rattle.demo_lines.specs.Spelling.{packet_text}
-use Rattle.out_text.specs.OutLines.{FrameLine, EndLine, printed, text_of}
+use Rattle.out_text.specs.OutLines.{FrameLine, EndLine, printed_line, text_of}
 use Rattle.out_text.specs.FrameLines.{lines_with}
 use Rattle.out_text.specs.Journals.{dids}
 use Rattle.out_text.specs.Collecting.{frames_of}
@@ -33,7 +33,7 @@ use Rattle.out_text.proofs.FedRuns.{by_recursion, length-feeds, feeds_have_bytes
 use Rattle.out_text.proofs.FedCounts.{feeds_are_small}
 
 -- the line of a packet is as long as that of the recording, which has at most 512 bytes, and its line feed
-from_line-long : (a : Arrival) → HasLine a → length (printed (from_line a)) ≤ 513
+from_line-long : (a : Arrival) → HasLine a → length (printed_line (from_line a)) ≤ 513
 from_line-long a fits =
     let port = codes "from " ++ decimal a.port in
     let packet = packet_text a.bytes in

@@ -12,7 +12,7 @@ use Rattle.plain_server.specs.Entries.{AreReported}
 use Rattle.plain_server.specs.Frames.{received_in, moved_by, state_after}
 use Rattle.plain_server.specs.Replies.{players_in}
 use Rattle.out_text.specs.Dids.{Did, did_of}
-use Rattle.out_text.specs.OutLines.{OutLine, FrameLine, FromLine, NoLine, JoinedLine, DidLine, ToLine, EndLine, spelled, text_of}
+use Rattle.out_text.specs.OutLines.{OutLine, FrameLine, FromLine, NoLine, JoinedLine, DidLine, ToLine, EndLine, line_spelling, text_of}
 use Rattle.out_text.specs.FrameLines.{no_line, joined_line, did_line, to_line, lines_with}
 use Rattle.out_text.specs.Reading.{line_in}
 use Rattle.out_text.specs.Journals.{dids}
@@ -39,7 +39,7 @@ AreRead feeds = AllByRecursion (λ fed. AllByRecursion IsRead fed) feeds
 
 -- the mark of a line, once it is spelled
 abbrev mark : OutLine → Mark
-mark line = mark_of_line (line_in (spelled line))
+mark line = mark_of_line (line_in (line_spelling line))
 
 abbrev pub marked : List OutLine → Split
 marked lines = split_at_frames (map mark lines)
@@ -67,7 +67,7 @@ first_byte [] = 0
 first_byte (b ∷ bytes) = b
 
 -- no such line begins with an f
-no_f : (line : OutLine) → IsOther line → first_byte (spelled line) ≡ 102 → ⊥
+no_f : (line : OutLine) → IsOther line → first_byte (line_spelling line) ≡ 102 → ⊥
 no_f (FrameLine frame) other e = other
 no_f (FromLine port bytes) other e = other
 no_f (NoLine place why) other e = let h : 110 ≡ 102 = e in omega (arith, h)
@@ -77,12 +77,12 @@ no_f (ToLine slot bytes) other e = let h : 116 ≡ 102 = e in omega (arith, h)
 no_f (EndLine frames) other e = let h : 101 ≡ 102 = e in omega (arith, h)
 
 mark-other : (line : OutLine) → IsOther line → mark line ≡ Other
-mark-other line other = by (line_in (spelled line)) refl
+mark-other line other = by (line_in (line_spelling line)) refl
   where
-    by : (o : Option OutLine) → line_in (spelled line) ≡ o → mark_of_line o ≡ Other
+    by : (o : Option OutLine) → line_in (line_spelling line) ≡ o → mark_of_line o ≡ Other
     by None e = refl
-    by (Some (FrameLine frame)) e = absurd (no_f line other (ap first_byte (line-sound (spelled line) (FrameLine frame) e).spelled))
-    by (Some (FromLine port bytes)) e = absurd (no_f line other (ap first_byte (line-sound (spelled line) (FromLine port bytes) e).spelled))
+    by (Some (FrameLine frame)) e = absurd (no_f line other (ap first_byte (line-sound (line_spelling line) (FrameLine frame) e).spelled))
+    by (Some (FromLine port bytes)) e = absurd (no_f line other (ap first_byte (line-sound (line_spelling line) (FromLine port bytes) e).spelled))
     by (Some (NoLine place why)) e = refl
     by (Some (JoinedLine port slot)) e = refl
     by (Some (DidLine did)) e = refl
@@ -156,7 +156,7 @@ froms-text lines feeds is =
     ap (λ ls. (split_at_frames (map (λ line. mark_of_line (line_in line)) ls)).frames) (whole_lines-text lines)
     ∙ ap (λ ms. (split_at_frames ms).frames) (each_mark lines) ∙ ap (λ (s : Split). s.frames) is
   where
-    each_mark : (ls : List OutLine) → map (λ line. mark_of_line (line_in line)) (map spelled ls) ≡ map mark ls
+    each_mark : (ls : List OutLine) → map (λ line. mark_of_line (line_in line)) (map line_spelling ls) ≡ map mark ls
     each_mark [] = refl
     each_mark (l ∷ ls) = ap (λ ms. mark l ∷ ms) (each_mark ls)
 

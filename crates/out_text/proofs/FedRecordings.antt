@@ -9,7 +9,7 @@ use Rattle.demo_lines.specs.declared.event.Event.TheVariants as events
 use Rattle.demo_lines.specs.Machines.{run_of}
 use Rattle.demo_lines.specs.Spelling.{frame_events, recording_events, IsArrival, IsFrame, IsRecording}
 use Rattle.demo_lines.specs.Laws.{IsTextOf}
-use Rattle.out_text.specs.Collecting.{Frames, collect, closing, collected, frames_of}
+use Rattle.out_text.specs.Collecting.{Frames, collect, closed_frames, frames_of_events, frames_of}
 use Rattle.out_text.specs.Feeds.{AreFeedsOf}
 use Rattle.out_text.proofs.Reporting.{HaveBytes}
 use Rattle.out_text.proofs.Growing.{GoesOnWith, length-goes_on}
@@ -33,10 +33,10 @@ collects_packets closed opened (a ∷ arrivals) more =
     ∙ ap (λ (l : List Arrival). run_of collect (record { closed = closed; opened = Some l }) more) (append_assoc opened (a ∷ []) arrivals)
 
 collects_frames : (closed : List (List Arrival)) (opened : Option (List Arrival)) (frames : List (List Arrival))
-    → (run_of collect (record { closed = closed; opened = opened }) (recording_events frames)).closed ≡ (closed ++ closing opened) ++ frames
-collects_frames closed opened [] = sym (append-nil (closed ++ closing opened))
+    → (run_of collect (record { closed = closed; opened = opened }) (recording_events frames)).closed ≡ (closed ++ closed_frames opened) ++ frames
+collects_frames closed opened [] = sym (append-nil (closed ++ closed_frames opened))
 collects_frames closed opened (arrivals ∷ frames) =
-    let before = closed ++ closing opened in
+    let before = closed ++ closed_frames opened in
     let packets = map events.From arrivals in
     ap (λ (es : List Event). (run_of collect (record { closed = before; opened = Some [] }) es).closed) (append_assoc packets (flat_map frame_events frames) (events.End ∷ []))
     ∙ ap (λ (f : Frames). f.closed) (collects_packets before [] arrivals (recording_events frames))
@@ -45,7 +45,7 @@ collects_frames closed opened (arrivals ∷ frames) =
 
 -- a text with the events of frames has these frames
 pub frames_of-read : (arena : MapView) (frames : List (List Arrival)) (text : List ℕ) → IsTextOf arena frames text → frames_of text ≡ frames
-frames_of-read arena frames text read = ap (λ (es : List Event). (collected es).closed) read.events ∙ collects_frames [] None frames
+frames_of-read arena frames text read = ap (λ (es : List Event). (frames_of_events es).closed) read.events ∙ collects_frames [] None frames
 
 -- ---- frames that can be written
 

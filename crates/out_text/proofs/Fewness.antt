@@ -14,38 +14,38 @@ use Rattle.demo_lines.specs.declared.event.Event.TheVariants as events
 use Rattle.demo_lines.specs.Machines.{run_of}
 use Rattle.demo_lines.specs.Known.{Reading, start_within, is_over}
 use Rattle.demo_lines.specs.Faults.{broken_by_frame}
-use Rattle.demo_lines.specs.Said.{place_fault}
+use Rattle.demo_lines.specs.Said.{stage_fault}
 use Rattle.demo_lines.specs.Recording.{next, event_of, events_of_line, events_of}
 use Rattle.demo_lines.specs.Bytes.{lines_of}
 use Rattle.demo_lines.proofs.Machines.{run_of-append}
 use Rattle.demo_lines.proofs.Taking.{IsTaken}
 use Rattle.demo_lines.proofs.Limits.{next-limit}
-use Rattle.out_text.specs.Collecting.{Frames, collect, collected, closing, no_frames, frames_of}
+use Rattle.out_text.specs.Collecting.{Frames, collect, frames_of_events, closed_frames, no_frames, frames_of}
 use Rattle.out_text.proofs.EachLine.{of_each_line}
 use Rattle.out_text.proofs.Agreement.{NoneYet, OneOpen, AgreesAt, Agrees, agrees_line}
 
 -- at most so many frames are closed or open
 abbrev AreFew : ℕ → Frames → Type 0
-AreFew limit f = length f.closed + length (closing f.opened) ≤ limit
+AreFew limit f = length f.closed + length (closed_frames f.opened) ≤ limit
 
-size-arrived : (a : Arrival) (o : Option (List Arrival)) → length (closing (option_map (λ arrivals. arrivals ++ a ∷ []) o)) ≡ length (closing o)
+size-arrived : (a : Arrival) (o : Option (List Arrival)) → length (closed_frames (option_map (λ arrivals. arrivals ++ a ∷ []) o)) ≡ length (closed_frames o)
 size-arrived a None = refl
 size-arrived a (Some arrivals) = refl
 
 few_ended : (limit : ℕ) (f : Frames) → AreFew limit f → AreFew limit (collect f events.End)
-few_ended limit f few = omega (arith, few, length-append f.closed (closing f.opened))
+few_ended limit f few = omega (arith, few, length-append f.closed (closed_frames f.opened))
 
 few_arrived : (limit : ℕ) (f : Frames) (a : Arrival) → AreFew limit f → AreFew limit (collect f (events.From a))
 few_arrived limit f a few = omega (arith, few, size-arrived a f.opened)
 
 few_first : (r : Reading) (f : Frames) → NoneYet r f → r.frames < r.limit → AreFew r.limit (collect f events.Frame)
-few_first r f none below = omega (arith, below, length-append f.closed (closing f.opened), ap length none.closed, ap (λ o. length (closing o)) none.opened)
+few_first r f none below = omega (arith, below, length-append f.closed (closed_frames f.opened), ap length none.closed, ap (λ o. length (closed_frames o)) none.opened)
 
 few_next : (r : Reading) (f : Frames) → OneOpen r f → r.frames < r.limit → AreFew r.limit (collect f events.Frame)
-few_next r f one below = omega (arith, length-append f.closed (closing f.opened), ap (λ o. length (closing o)) one.opened, one.frames, below)
+few_next r f one below = omega (arith, length-append f.closed (closed_frames f.opened), ap (λ o. length (closed_frames o)) one.opened, one.frames, below)
 
 -- a frame that is opened without a fault is one of those that there may be
-frame_below : (r : Reading) → place_fault r lines.Frame ≡ None → r.frames < r.limit
+frame_below : (r : Reading) → stage_fault r lines.Frame ≡ None → r.frames < r.limit
 frame_below r none = by (option_map faults.Rule (broken_by_frame r)) (nat_le r.limit r.frames) refl none
   where
     by : (rule : Option LineFault) (full : Bool) → nat_le r.limit r.frames ≡ full → option_or rule (cond full (Some faults.Count) None) ≡ None → r.frames < r.limit
@@ -54,7 +54,7 @@ frame_below r none = by (option_map faults.Rule (broken_by_frame r)) (nat_le r.l
     by (Some why) full is h = cc
 
 -- after a line that is taken there are few
-taken_few : (stage : Stage) (r : Reading) (line : Line) (f : Frames) → is_over stage ≡ false → IsTaken stage line → place_fault r line ≡ None → AgreesAt stage r f → AreFew r.limit f
+taken_few : (stage : Stage) (r : Reading) (line : Line) (f : Frames) → is_over stage ≡ false → IsTaken stage line → stage_fault r line ≡ None → AgreesAt stage r f → AreFew r.limit f
     → AreFew r.limit (run_of collect f (event_of (Some line)))
 taken_few Start r (lines.OfMap line) f going is none agrees few = few
 taken_few Start r lines.Frame f going is none agrees few = cc
@@ -87,7 +87,7 @@ few_lines r (l ∷ ls) f agrees few =
     subst (AreFew r.limit) (sym (run_of-append {E = Event} collect (λ _ _. []) f (events_of_line r l) (events_of (next r l) ls))) rest
 
 -- the frames that lines close are few
-pub frames_are_few_of : (limit : ℕ) (ls : List (List ℕ)) → length (collected (events_of (start_within limit) ls)).closed ≤ limit
+pub frames_are_few_of : (limit : ℕ) (ls : List (List ℕ)) → length (frames_of_events (events_of (start_within limit) ls)).closed ≤ limit
 frames_are_few_of limit ls =
     let r = start_within limit in
     let none : NoneYet r no_frames = record { closed = refl; opened = refl; frames = refl } in

@@ -19,7 +19,7 @@ use Rattle.demo_lines.proofs.Machines.{run_of-append}
 use Rattle.demo_lines.proofs.Ends.{after-over, events_of-over}
 use Rattle.demo_lines.proofs.Prefixes.{faultless_is_over}
 use Rattle.demo_lines.proofs.Taking.{IsTaken}
-use Rattle.out_text.specs.Collecting.{Frames, collect, closing, no_frames, collected}
+use Rattle.out_text.specs.Collecting.{Frames, collect, closed_frames, no_frames, frames_of_events}
 use Rattle.out_text.specs.Laws.{HasNoFrame, HasOpenFrame, FramesHaveTheEvents}
 use Rattle.out_text.proofs.EachLine.{of_each_line}
 
@@ -50,20 +50,20 @@ IsMade r f es = IsMadeAt r.stage f es
 
 -- ---- one event more
 
-of_none : (f : Frames) (es : List Event) → IsNone f es → es ≡ flat_map frame_events (f.closed ++ closing f.opened)
-of_none f es none = none.made ∙ ap (λ o. flat_map frame_events (closing o)) (sym none.opened) ∙ ap (λ fs. flat_map frame_events (fs ++ closing f.opened)) (sym none.closed)
+of_none : (f : Frames) (es : List Event) → IsNone f es → es ≡ flat_map frame_events (f.closed ++ closed_frames f.opened)
+of_none f es none = none.made ∙ ap (λ o. flat_map frame_events (closed_frames o)) (sym none.opened) ∙ ap (λ fs. flat_map frame_events (fs ++ closed_frames f.opened)) (sym none.closed)
 
-of_open : (f : Frames) (es : List Event) → IsOpen f es → es ≡ flat_map frame_events (f.closed ++ closing f.opened)
-of_open f es open_one = open_one.made ∙ ap (λ o. flat_map frame_events (f.closed ++ closing o)) (sym open_one.opened)
+of_open : (f : Frames) (es : List Event) → IsOpen f es → es ≡ flat_map frame_events (f.closed ++ closed_frames f.opened)
+of_open f es open_one = open_one.made ∙ ap (λ o. flat_map frame_events (f.closed ++ closed_frames o)) (sym open_one.opened)
 
-with_frame : (f : Frames) (es : List Event) → es ≡ flat_map frame_events (f.closed ++ closing f.opened) → IsOpen (collect f events.Frame) (es ++ events.Frame ∷ [])
+with_frame : (f : Frames) (es : List Event) → es ≡ flat_map frame_events (f.closed ++ closed_frames f.opened) → IsOpen (collect f events.Frame) (es ++ events.Frame ∷ [])
 with_frame f es made = record {
   arrivals = [];
   opened = refl;
-  made = ap (λ xs. xs ++ events.Frame ∷ []) made ∙ sym (flat_map-append frame_events (f.closed ++ closing f.opened) ([] ∷ []));
+  made = ap (λ xs. xs ++ events.Frame ∷ []) made ∙ sym (flat_map-append frame_events (f.closed ++ closed_frames f.opened) ([] ∷ []));
 }
 
-with_end : (f : Frames) (es : List Event) → es ≡ flat_map frame_events (f.closed ++ closing f.opened) → es ++ events.End ∷ [] ≡ recording_events (collect f events.End).closed
+with_end : (f : Frames) (es : List Event) → es ≡ flat_map frame_events (f.closed ++ closed_frames f.opened) → es ++ events.End ∷ [] ≡ recording_events (collect f events.End).closed
 with_end f es made = ap (λ xs. xs ++ events.End ∷ []) made
 
 -- the events of a frame with one packet more
@@ -159,15 +159,15 @@ faulty_made Playing r part f es why made refused = inr made
 faulty_made Ended r part f es why made refused = cc
 faulty_made (Refused fault) r part f es why made refused = made
 
-made_of : (ls : List (List ℕ)) → IsMade (after start ls) (collected (events_of start ls)) (events_of start ls)
+made_of : (ls : List (List ℕ)) → IsMade (after start ls) (frames_of_events (events_of start ls)) (events_of start ls)
 made_of ls = lines_made start ls no_frames [] (record { closed = refl; opened = refl; made = refl })
 
-whole_has : (bytes : List ℕ) → fault bytes ≡ None → events_of start (lines_of bytes) ≡ recording_events (collected (events_of start (lines_of bytes))).closed
+whole_has : (bytes : List ℕ) → fault bytes ≡ None → events_of start (lines_of bytes) ≡ recording_events (frames_of_events (events_of start (lines_of bytes))).closed
 whole_has bytes none =
     let r = after start (lines_of bytes) in
-    whole_made r.stage r (last_part bytes) (collected (events_of start (lines_of bytes))) (events_of start (lines_of bytes)) (made_of (lines_of bytes)) (faultless_is_over bytes none) none
+    whole_made r.stage r (last_part bytes) (frames_of_events (events_of start (lines_of bytes))) (events_of start (lines_of bytes)) (made_of (lines_of bytes)) (faultless_is_over bytes none) none
 
-faulty_has : (bytes : List ℕ) → IsNone (collected (events_of start (lines_of bytes))) (events_of start (lines_of bytes)) ⊎ IsOpen (collected (events_of start (lines_of bytes))) (events_of start (lines_of bytes))
+faulty_has : (bytes : List ℕ) → IsNone (frames_of_events (events_of start (lines_of bytes))) (events_of start (lines_of bytes)) ⊎ IsOpen (frames_of_events (events_of start (lines_of bytes))) (events_of start (lines_of bytes))
     → HasNoFrame bytes ⊎ HasOpenFrame bytes
 faulty_has bytes (inl none) = inl (record { events_are = none.made; frames_are = none.closed })
 faulty_has bytes (inr open_one) = inr (record { opened = open_one.arrivals; events_are = open_one.made })
@@ -177,5 +177,5 @@ frames_have_the_events = record {
   whole = whole_has;
   faulty = λ bytes why refused.
       let r = after start (lines_of bytes) in
-      faulty_has bytes (faulty_made r.stage r (last_part bytes) (collected (events_of start (lines_of bytes))) (events_of start (lines_of bytes)) why (made_of (lines_of bytes)) refused);
+      faulty_has bytes (faulty_made r.stage r (last_part bytes) (frames_of_events (events_of start (lines_of bytes))) (events_of start (lines_of bytes)) why (made_of (lines_of bytes)) refused);
 }

@@ -6,7 +6,7 @@ use Rattle.demo_lines.specs.declared.event.Event.{Event}
 use Rattle.demo_lines.specs.declared.event.Event.TheVariants.{Frame, From, End}
 use Rattle.demo_lines.specs.Machines.{run_of}
 use Rattle.demo_lines.proofs.Machines.{run_of-append}
-use Rattle.out_text.specs.Collecting.{Frames, collect, closing, collected, no_frames}
+use Rattle.out_text.specs.Collecting.{Frames, collect, closed_frames, frames_of_events, no_frames}
 
 -- these frames are the first of all
 pub record GoesOnWith (closed all : List (List Arrival)) : Type 0 where
@@ -14,9 +14,9 @@ pub record GoesOnWith (closed all : List (List Arrival)) : Type 0 where
   pub is : all ≡ closed ++ rest
 
 collect_more : (f : Frames) (e : Event) → GoesOnWith f.closed (collect f e).closed
-collect_more f Frame = record { rest = closing f.opened; is = refl }
+collect_more f Frame = record { rest = closed_frames f.opened; is = refl }
 collect_more f (From a) = record { rest = []; is = sym (append-nil f.closed) }
-collect_more f End = record { rest = closing f.opened; is = refl }
+collect_more f End = record { rest = closed_frames f.opened; is = refl }
 
 goes_on_trans : (a b c : List (List Arrival)) → GoesOnWith a b → GoesOnWith b c → GoesOnWith a c
 goes_on_trans a b c one more = record {
@@ -29,14 +29,14 @@ collects_more f [] = record { rest = []; is = sym (append-nil f.closed) }
 collects_more f (e ∷ es) = goes_on_trans f.closed (collect f e).closed (run_of collect f (e ∷ es)).closed (collect_more f e) (collects_more (collect f e) es)
 
 -- the frames of more events
-pub collected-append : (es more : List Event) → collected (es ++ more) ≡ run_of collect (collected es) more
+pub collected-append : (es more : List Event) → frames_of_events (es ++ more) ≡ run_of collect (frames_of_events es) more
 collected-append es more = run_of-append {E = Event} collect (λ _ _. []) no_frames es more
 
 -- the frames of the first events are the first of all
-pub goes_on_collected : (es more : List Event) → GoesOnWith (collected es).closed (collected (es ++ more)).closed
+pub goes_on_collected : (es more : List Event) → GoesOnWith (frames_of_events es).closed (frames_of_events (es ++ more)).closed
 goes_on_collected es more =
-    let P : Frames → Type 0 = λ f. GoesOnWith (collected es).closed f.closed in
-    subst P (sym (collected-append es more)) (collects_more (collected es) more)
+    let P : Frames → Type 0 = λ f. GoesOnWith (frames_of_events es).closed f.closed in
+    subst P (sym (collected-append es more)) (collects_more (frames_of_events es) more)
 
 -- all frames are the first of all
 pub goes_on_all : (closed all : List (List Arrival)) → all ≡ closed → GoesOnWith closed all

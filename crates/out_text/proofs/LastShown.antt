@@ -22,7 +22,7 @@ use Rattle.client_ports.specs.Lists.{Lists}
 use Rattle.snapshot_write.specs.declared.snapshot.Snapshot.{Snapshot}
 use Rattle.snapshot_write.specs.declared.snap_fault.SnapFault.{SnapFault}
 use Rattle.snapshot_write.specs.Snapshots.{snapshot}
-use Rattle.snapshot_write.specs.Cause.{cause_of}
+use Rattle.snapshot_write.specs.Faults.{fault_of}
 use Rattle.snapshot_write.specs.Reading.{snapshot_in, answer, reading}
 use Rattle.snapshot_write.proofs.Fields.{vector_again}
 use Rattle.plain_server.specs.Replies.{players_in}
@@ -112,11 +112,11 @@ no_later slot (e ∷ later) none =
 -- ---- the replies are those of the live players
 
 -- a live record, at its place
-record IsPlaced (records : List (Option Rec)) (me : Rec) : Type 0 where
+record IsAllowedAt (records : List (Option Rec)) (me : Rec) : Type 0 where
   place : ℕ
   at : record_at records place ≡ Some me
 
-placed : (records : List (Option Rec)) (me : Rec) → Contains (live_in records) me → IsPlaced records me
+placed : (records : List (Option Rec)) (me : Rec) → Contains (live_in records) me → IsAllowedAt records me
 placed [] me (k, within, is) = absurd (omega (arith, within))
 placed (None ∷ records) me has = let rest = placed records me has in record { place = suc rest.place; at = rest.at }
 placed (Some r ∷ records) me (zero, within, is) = record { place = 0; at = ap Some is }
@@ -174,9 +174,9 @@ near_fits v near = record {
 }
 
 read_as : (bytes : List ℕ) (s : Snapshot) → reading bytes ≡ Ok s → snapshot_in bytes ≡ s
-read_as bytes s is = by (cause_of bytes) is
+read_as bytes s is = by (fault_of bytes) is
   where
-    by : (cause : Option SnapFault) → answer cause (snapshot_in bytes) ≡ Ok s → snapshot_in bytes ≡ s
+    by : (found : Option SnapFault) → answer found (snapshot_in bytes) ≡ Ok s → snapshot_in bytes ≡ s
     by None e = cc
     by (Some fault) e = cc
 

@@ -16,7 +16,7 @@ use Rattle.client_ports.specs.declared.refusal.Refusal.TheVariants.{Packet, Alre
 use Rattle.snapshot_write.specs.declared.reply_buf.TheConstants.{BLOCK, REPLY_ROOM}
 use Rattle.snapshot_write.specs.Snapshots.{is_seen, entity_bytes, own_bytes, seen_by, seen_bytes, snapshot}
 use Rattle.plain_server.specs.Entries.{IsReported, AreReported}
-use Rattle.out_text.specs.OutLines.{OutLine, FrameLine, NoLine, JoinedLine, EndLine, fault_name_of, name_of, ids_text, printed, text_of}
+use Rattle.out_text.specs.OutLines.{OutLine, FrameLine, NoLine, JoinedLine, EndLine, fault_name_of, name_of, ids_text, printed_line, text_of}
 use Rattle.out_text.specs.FrameLines.{did_line, to_line}
 use Rattle.out_text.proofs.Runs.{text_of-append}
 
@@ -31,16 +31,16 @@ ended xs = omega (arith, length-append xs (10 ∷ []))
 pub length-lines : (xs ys : List OutLine) → length (text_of (xs ++ ys)) ≡ length (text_of xs) + length (text_of ys)
 length-lines xs ys = ap length (text_of-append xs ys) ∙ length-append (text_of xs) (text_of ys)
 
-pub length-line : (l : OutLine) (ls : List OutLine) → length (text_of (l ∷ ls)) ≡ length (printed l) + length (text_of ls)
-length-line l ls = length-append (printed l) (text_of ls)
+pub length-line : (l : OutLine) (ls : List OutLine) → length (text_of (l ∷ ls)) ≡ length (printed_line l) + length (text_of ls)
+length-line l ls = length-append (printed_line l) (text_of ls)
 
 -- ---- frames, refusals and joins
 
-pub frame_line-long : (frame : ℕ) → frame < 100000 → length (printed (FrameLine frame)) ≤ 16
+pub frame_line-long : (frame : ℕ) → frame < 100000 → length (printed_line (FrameLine frame)) ≤ 16
 frame_line-long frame below =
     omega (arith, ended (codes "frame " ++ decimal frame), length-append (codes "frame ") (decimal frame), length-decimal-le 5 frame (omega arith) (omega arith) (omega arith))
 
-pub end_line-long : (frames : ℕ) → frames ≤ 100000 → length (printed (EndLine frames)) ≤ 16
+pub end_line-long : (frames : ℕ) → frames ≤ 100000 → length (printed_line (EndLine frames)) ≤ 16
 end_line-long frames few =
     omega (arith, ended (codes "end " ++ decimal frames), length-append (codes "end ") (decimal frames), length-decimal-le 6 frames (omega arith) (omega arith) (omega arith))
 
@@ -64,7 +64,7 @@ name-long Leaving = omega arith
 name-long Old = omega arith
 name-long Many = omega arith
 
-pub no_line-long : (place : ℕ) (why : Refusal) → place < 512 → length (printed (NoLine place why)) ≤ 17
+pub no_line-long : (place : ℕ) (why : Refusal) → place < 512 → length (printed_line (NoLine place why)) ≤ 17
 no_line-long place why below =
     let front = codes "no " ++ decimal place in
     omega (
@@ -76,7 +76,7 @@ no_line-long place why below =
       name-long why,
     )
 
-pub joined_line-long : (port slot : ℕ) → port < 65536 → slot < 64 → length (printed (JoinedLine port slot)) ≤ 17
+pub joined_line-long : (port slot : ℕ) → port < 65536 → slot < 64 → length (printed_line (JoinedLine port slot)) ≤ 17
 joined_line-long port slot small below =
     let front = codes "joined " ++ decimal port in
     omega (
@@ -106,7 +106,7 @@ ids-long : (ids : List ℕ) → AllByRecursion (λ id. id < 2 ^ 16) ids → leng
 ids-long [] are few = omega arith
 ids-long (id ∷ ids) are few = omega (arith, joined-long id ids are, few)
 
-did_line-long : (place : ℕ) (e : Entry) → IsReported place e → length (printed (did_line e)) ≤ 96
+did_line-long : (place : ℕ) (e : Entry) → IsReported place e → length (printed_line (did_line e)) ≤ 96
 did_line-long place e is =
     let low : e.slot < 64 = is.slot in
     let small : e.seq < 2 ^ 32 = is.seq in
@@ -158,7 +158,7 @@ snapshot-long frame me live few =
     let seen = seen_by me live in
     omega (arith, length-append (own_bytes frame me) (seen_bytes seen), entities-long seen, seen-few me live, few)
 
-to_line-long : (frame : ℕ) (live : List Rec) (me : Rec) → length live ≤ IDS → me.id < IDS → length (printed (to_line frame live me)) ≤ ROOM
+to_line-long : (frame : ℕ) (live : List Rec) (me : Rec) → length live ≤ IDS → me.id < IDS → length (printed_line (to_line frame live me)) ≤ ROOM
 to_line-long frame live me few below =
     let front = codes "to " ++ decimal me.id in
     let bytes = snapshot frame me live in

@@ -23,11 +23,11 @@ use Rattle.packet_read.specs.declared.packet_fault.PacketFault.TheVariants.{Empt
 use Rattle.hex.specs.Hex.{encode_lower, lower_digits}
 use Rattle.hex.proofs.HexLemmas.{length-encode_with}
 use Rattle.out_text.specs.Dids.{Did}
-use Rattle.out_text.specs.OutLines.{OutLine, FrameLine, FromLine, NoLine, JoinedLine, DidLine, ToLine, EndLine, name_of, ids_text, spelled}
+use Rattle.out_text.specs.OutLines.{OutLine, FrameLine, FromLine, NoLine, JoinedLine, DidLine, ToLine, EndLine, name_of, ids_text, line_spelling}
 use Rattle.demo_lines.specs.Spelling.{packet_text}
-use Rattle.out_text.specs.Journals.{number_at, all_there, ids_in, alone, is_coordinate}
+use Rattle.out_text.specs.Journals.{number_at, all_there, ids_in, value_at_end, is_coordinate}
 use Rattle.out_text.specs.Ranges.{IsInRange, IsPrinted}
-use Rattle.out_text.specs.Reading.{passing, within, coordinate_at, origin_at, few_ids, refusals, refusal_of, bytes_in, packet_in, frame_in, from_in, no_in, joined_in, did_line_in, to_in, end_in, line_in}
+use Rattle.out_text.specs.Reading.{value_if_passing, within, coordinate_at, origin_at, few_ids, refusals, refusal_of, bytes_in, packet_in, frame_in, from_in, no_in, joined_in, did_line_in, to_in, end_in, line_in}
 use Rattle.out_text.proofs.Spellings.{AreIds, joined, ids-read}
 use Rattle.out_text.proofs.HexTexts.{hex-back, hex-sound, hex-above}
 
@@ -171,7 +171,7 @@ packet-back [] few are = refl
 packet-back (b ∷ bytes) few are =
     let within : nat_le (length (b ∷ bytes)) 252 ≡ true = grind (arith, nat_tests, few) in
     let no_dash : bytes_eq (encode_lower (b ∷ bytes)) (codes "-") ≡ false = not_dash b bytes in
-    rw no_dash (ap (passing (λ (l : List ℕ). nat_le (length l) 252)) (hex-back (b ∷ bytes) (omega arith) (omega (arith, few)) are) ∙ rw within refl)
+    rw no_dash (ap (value_if_passing (λ (l : List ℕ). nat_le (length l) 252)) (hex-back (b ∷ bytes) (omega arith) (omega (arith, few)) are) ∙ rw within refl)
 
 packet_above : (bytes : List ℕ) → AllByRecursion (λ b. b < 2 ^ 8) bytes → AreAbove 32 (packet_text bytes)
 packet_above [] are = above (packet_text []) refl
@@ -205,7 +205,7 @@ two_fields : (word a b : List ℕ) → word ++ a ++ codes " " ++ b ≡ word ++ (
 two_fields word a b =
     append_assoc (word ++ a) (codes " ") b ∙ append_assoc word a (field_text b) ∙ ap (λ l. word ++ (a ++ l)) (last-field b)
 
-did_text : (d : Did) → spelled (DidLine d) ≡ codes "did" ++ (field_text (decimal d.slot) ++ (field_text (decimal d.seq) ++ (field_text (signed_decimal d.origin.x)
+did_text : (d : Did) → line_spelling (DidLine d) ≡ codes "did" ++ (field_text (decimal d.slot) ++ (field_text (decimal d.seq) ++ (field_text (signed_decimal d.origin.x)
     ++ (field_text (signed_decimal d.origin.y) ++ (field_text (signed_decimal d.origin.z) ++ (field_text (ids_text d.got) ++ []))))))
 did_text d =
     did_parts (codes "did ") (decimal d.slot) (decimal d.seq) (signed_decimal d.origin.x) (signed_decimal d.origin.y)
@@ -217,37 +217,37 @@ did_text d =
 goes_on : {A B : Type 0} (o : Option A) (x : A) (f : A → Option B) → o ≡ Some x → o >>= f ≡ f x
 goes_on o x f e = ap (λ p. p >>= f) e
 
-pub line-back : (l : OutLine) → IsInRange l → line_in (spelled l) ≡ Some l
+pub line-back : (l : OutLine) → IsInRange l → line_in (line_spelling l) ≡ Some l
 line-back (FrameLine frame) is =
-    word-back (codes "frame") (field_text (decimal frame)) (spelled (FrameLine frame)) refl refl refl
+    word-back (codes "frame") (field_text (decimal frame)) (line_spelling (FrameLine frame)) refl refl refl
     ∙ ap frame_in (last-field (decimal frame))
     ∙ rw (number-back 4294967295 frame [] (omega (arith, is)) (omega arith) tt) refl
 line-back (EndLine frames) is =
-    word-back (codes "end") (field_text (decimal frames)) (spelled (EndLine frames)) refl refl refl
+    word-back (codes "end") (field_text (decimal frames)) (line_spelling (EndLine frames)) refl refl refl
     ∙ ap end_in (last-field (decimal frames))
     ∙ rw (number-back 4294967295 frames [] (omega (arith, is)) (omega arith) tt) refl
 line-back (NoLine place why) is =
     let name = field_text (name_of why) ++ [] in
-    word-back (codes "no") (field_text (decimal place) ++ name) (spelled (NoLine place why)) refl refl
+    word-back (codes "no") (field_text (decimal place) ++ name) (line_spelling (NoLine place why)) refl refl
     (two_fields (codes "no ") (decimal place) (name_of why))
     ∙ goes_on (number_at 4294967295 (field_text (decimal place) ++ name)) (place, name) _ (number-back 4294967295 place name (omega (arith, is)) (omega arith) refl)
-    ∙ goes_on (field_at name) (name_of why, []) (λ field. refusal_of field.0 >>= (λ other. alone (NoLine place other) field.1))
+    ∙ goes_on (field_at name) (name_of why, []) (λ field. refusal_of field.0 >>= (λ other. value_at_end (NoLine place other) field.1))
     (field_at-field (name_of why) [] (above (name_of why) (name_above why)) tt)
-    ∙ goes_on (refusal_of (name_of why)) why (λ other. alone (NoLine place other) []) (name-back why)
+    ∙ goes_on (refusal_of (name_of why)) why (λ other. value_at_end (NoLine place other) []) (name-back why)
 line-back (FromLine port bytes) is =
     let fits = is.port_fits in
     let text = field_text (packet_text bytes) ++ [] in
-    word-back (codes "from") (field_text (decimal port) ++ text) (spelled (FromLine port bytes)) refl refl
+    word-back (codes "from") (field_text (decimal port) ++ text) (line_spelling (FromLine port bytes)) refl refl
     (two_fields (codes "from ") (decimal port) (packet_text bytes))
     ∙ goes_on (number_at 65535 (field_text (decimal port) ++ text)) (port, text) _ (number-back 65535 port text (omega (arith, fits)) (omega arith) refl)
-    ∙ goes_on (field_at text) (packet_text bytes, []) (λ field. packet_in field.0 >>= (λ read. alone (FromLine port read) field.1))
+    ∙ goes_on (field_at text) (packet_text bytes, []) (λ field. packet_in field.0 >>= (λ read. value_at_end (FromLine port read) field.1))
     (field_at-field (packet_text bytes) [] (packet_above bytes is.are_bytes) tt)
-    ∙ goes_on (packet_in (packet_text bytes)) bytes (λ read. alone (FromLine port read) []) (packet-back bytes is.most is.are_bytes)
+    ∙ goes_on (packet_in (packet_text bytes)) bytes (λ read. value_at_end (FromLine port read) []) (packet-back bytes is.most is.are_bytes)
 line-back (JoinedLine port slot) is =
     let fits = is.port_fits in
     let small = is.slot_fits in
     let last = field_text (decimal slot) ++ [] in
-    word-back (codes "joined") (field_text (decimal port) ++ last) (spelled (JoinedLine port slot)) refl refl
+    word-back (codes "joined") (field_text (decimal port) ++ last) (line_spelling (JoinedLine port slot)) refl refl
     (two_fields (codes "joined ") (decimal port) (decimal slot))
     ∙ rw (
       number-back 65535 port last (omega (arith, fits)) (omega arith) refl,
@@ -261,29 +261,29 @@ line-back (DidLine d) is =
     let y = field_text (signed_decimal d.origin.y) ++ z in
     let x = field_text (signed_decimal d.origin.x) ++ y in
     let number = field_text (decimal d.seq) ++ x in
-    word-back (codes "did") (field_text (decimal d.slot) ++ number) (spelled (DidLine d)) refl refl
+    word-back (codes "did") (field_text (decimal d.slot) ++ number) (line_spelling (DidLine d)) refl refl
     (did_text d)
     ∙ goes_on (number_at 255 (field_text (decimal d.slot) ++ number)) (d.slot, number) _ (number-back 255 d.slot number (omega (arith, slot)) (omega arith) refl)
     ∙ goes_on (number_at 4294967295 number) (d.seq, x) (λ s. origin_at s.1 >>= (λ o. field_at o.1 >>= (λ field. few_ids (ids_in field.0) >>= (λ got.
-    alone (DidLine (record { slot = d.slot; seq = s.0; origin = o.0; got = got })) field.1))))
+    value_at_end (DidLine (record { slot = d.slot; seq = s.0; origin = o.0; got = got })) field.1))))
     (number-back 4294967295 d.seq x (omega (arith, seq)) (omega arith) refl)
     ∙ goes_on (origin_at x) (d.origin, ids) (λ o. field_at o.1 >>= (λ field. few_ids (ids_in field.0) >>= (λ got.
-    alone (DidLine (record { slot = d.slot; seq = d.seq; origin = o.0; got = got })) field.1)))
+    value_at_end (DidLine (record { slot = d.slot; seq = d.seq; origin = o.0; got = got })) field.1)))
     (origin-back d.origin ids is.origin refl)
     ∙ goes_on (field_at ids) (ids_text d.got, []) (λ field. few_ids (ids_in field.0) >>= (λ got.
-    alone (DidLine (record { slot = d.slot; seq = d.seq; origin = d.origin; got = got })) field.1))
+    value_at_end (DidLine (record { slot = d.slot; seq = d.seq; origin = d.origin; got = got })) field.1))
     (field_at-field (ids_text d.got) [] (ids_above d.got (are_ids d.got is.got)) tt)
-    ∙ goes_on (few_ids (ids_in (ids_text d.got))) d.got (λ got. alone (DidLine (record { slot = d.slot; seq = d.seq; origin = d.origin; got = got })) [])
+    ∙ goes_on (few_ids (ids_in (ids_text d.got))) d.got (λ got. value_at_end (DidLine (record { slot = d.slot; seq = d.seq; origin = d.origin; got = got })) [])
     (few-back d.got is.got is.few)
 line-back (ToLine slot bytes) is =
     let small = is.slot_fits in
     let text = field_text (encode_lower bytes) ++ [] in
-    word-back (codes "to") (field_text (decimal slot) ++ text) (spelled (ToLine slot bytes)) refl refl
+    word-back (codes "to") (field_text (decimal slot) ++ text) (line_spelling (ToLine slot bytes)) refl refl
     (two_fields (codes "to ") (decimal slot) (encode_lower bytes))
     ∙ goes_on (number_at 255 (field_text (decimal slot) ++ text)) (slot, text) _ (number-back 255 slot text (omega (arith, small)) (omega arith) refl)
-    ∙ goes_on (field_at text) (encode_lower bytes, []) (λ field. bytes_in field.0 >>= (λ read. alone (ToLine slot read) field.1))
+    ∙ goes_on (field_at text) (encode_lower bytes, []) (λ field. bytes_in field.0 >>= (λ read. value_at_end (ToLine slot read) field.1))
     (field_at-field (encode_lower bytes) [] (hex-above bytes is.are_bytes) tt)
-    ∙ goes_on (bytes_in (encode_lower bytes)) bytes (λ read. alone (ToLine slot read) []) (hex-back bytes is.some is.most is.are_bytes)
+    ∙ goes_on (bytes_in (encode_lower bytes)) bytes (λ read. value_at_end (ToLine slot read) []) (hex-back bytes is.some is.most is.are_bytes)
 
 -- ---- what is read was printed: the fields
 
@@ -298,7 +298,7 @@ binds None f y h = cc
 binds (Some x) f y h = record { at = x; is = refl; gives = h }
 
 -- a value that passed a test
-passed : {X : Type 0} (test : X → Bool) (o : Option X) (x : X) → passing test o ≡ Some x → (o ≡ Some x) × (test x ≡ true)
+passed : {X : Type 0} (test : X → Bool) (o : Option X) (x : X) → value_if_passing test o ≡ Some x → (o ≡ Some x) × (test x ≡ true)
 passed test None x h = absurd cc
 passed test (Some y) x h = by (test y) refl h
   where
@@ -307,7 +307,7 @@ passed test (Some y) x h = by (test y) refl h
     by false e g = absurd cc
 
 -- nothing follows
-alone-sound : {X : Type 0} (x l : X) (rest : List ℕ) → alone x rest ≡ Some l → (rest ≡ []) × (x ≡ l)
+alone-sound : {X : Type 0} (x l : X) (rest : List ℕ) → value_at_end x rest ≡ Some l → (rest ≡ []) × (x ≡ l)
 alone-sound x l [] h = (refl, same_Some x l h)
 alone-sound x l (b ∷ rest) h = absurd cc
 
@@ -320,10 +320,10 @@ number-sound : (limit : ℕ) (rest : List ℕ) (n : ℕ × List ℕ) → limit �
 number-sound limit rest n low h =
     let field = binds (field_at rest) _ n h in
     let m = binds (natural_up_to limit field.at.0) _ n field.gives in
-    let spelled = natural-spelled limit m.at field.at.0 (omega (arith, low)) m.is in
+    let line_spelling = natural-spelled limit m.at field.at.0 (omega (arith, low)) m.is in
     let P : ℕ × List ℕ → Type 0 = ReadsNumber limit rest in
     subst P (same_Some (m.at, field.at.1) n m.gives)
-    (record { most = spelled.1; spelled = field_at-whole rest field.at field.is ∙ ap (λ t. field_text t ++ field.at.1) spelled.0 })
+    (record { most = line_spelling.1; spelled = field_at-whole rest field.at field.is ∙ ap (λ t. field_text t ++ field.at.1) line_spelling.0 })
 
 -- a coordinate was read
 record ReadsCoordinate (rest : List ℕ) (z : ℤ × List ℕ) : Type 0 where
@@ -335,12 +335,12 @@ coordinate-sound rest z h =
     let field = binds (field_at rest) _ z h in
     let y = binds (within (integer_up_to 2147483648 field.at.0)) _ z field.gives in
     let in_range = passed is_coordinate (integer_up_to 2147483648 field.at.0) y.at y.is in
-    let spelled = integer-spelled 2147483648 y.at field.at.0 (omega arith) in_range.0 in
+    let line_spelling = integer-spelled 2147483648 y.at field.at.0 (omega arith) in_range.0 in
     let P : ℤ × List ℕ → Type 0 = ReadsCoordinate rest in
     subst P (same_Some (y.at, field.at.1) z y.gives)
     (record {
       fits = coordinate_fits y.at in_range.1;
-      spelled = field_at-whole rest field.at field.is ∙ ap (λ t. field_text t ++ field.at.1) spelled.0;
+      spelled = field_at-whole rest field.at field.is ∙ ap (λ t. field_text t ++ field.at.1) line_spelling.0;
     })
 
 -- three coordinates were read
@@ -524,7 +524,7 @@ packet-sound text bytes h = by (bytes_eq text (codes "-")) refl h
     spelled_so [] some = absurd (omega arith)
     spelled_so (x ∷ xs) some = refl
 
-    by : (dash : Bool) → bytes_eq text (codes "-") ≡ dash → cond dash (Some []) (passing (λ (l : List ℕ). nat_le (length l) 252) (bytes_in text)) ≡ Some bytes
+    by : (dash : Bool) → bytes_eq text (codes "-") ≡ dash → cond dash (Some []) (value_if_passing (λ (l : List ℕ). nat_le (length l) 252) (bytes_in text)) ≡ Some bytes
         → ReadsPacket text bytes
     by true e g = subst (λ (l : List ℕ). ReadsPacket text l) (same_Some [] bytes g) (record { spelled = (bytes_eq-Decides text (codes "-")).0 e; most = omega arith; are = tt })
     by false e g =
@@ -606,7 +606,7 @@ line-sound line l h =
     subst (λ (text : List ℕ). IsPrinted text l) (cut-whole line) (word-sound (cut line).0 (cut line).1 l h)
 
 -- no two lines in range are printed alike
-pub one_line : (l k : OutLine) → IsInRange l → IsInRange k → spelled l ≡ spelled k → l ≡ k
+pub one_line : (l k : OutLine) → IsInRange l → IsInRange k → line_spelling l ≡ line_spelling k → l ≡ k
 one_line l k is also e = same_Some l k (sym (line-back l is) ∙ ap line_in e ∙ line-back k also)
 
 -- what is read of a line of the program's

@@ -16,7 +16,7 @@ use Rattle.client_ports.specs.declared.refusal.Refusal.TheVariants.{Packet, Alre
 use Rattle.packet_read.specs.declared.packet_fault.PacketFault.{PacketFault}
 use Rattle.packet_read.specs.declared.packet_fault.PacketFault.TheVariants.{Empty, Version, Kind, Short, Long, Time, Buttons, Count}
 use Rattle.out_text.specs.Dids.{Did, journal_from}
-use Rattle.out_text.specs.OutLines.{OutLine, FrameLine, FromLine, NoLine, JoinedLine, DidLine, ToLine, EndLine, fault_name_of, name_of, ids_text, spelled, text_of}
+use Rattle.out_text.specs.OutLines.{OutLine, FrameLine, FromLine, NoLine, JoinedLine, DidLine, ToLine, EndLine, fault_name_of, name_of, ids_text, line_spelling, text_of}
 use Rattle.demo_lines.specs.Spelling.{packet_text}
 use Rattle.out_text.specs.Journals.{Mark, Other, frame_mark, did_mark, number_at, did_in, mark_of, Split, onto, split_at_frames, dids}
 
@@ -122,7 +122,7 @@ Unbroken-spaced xs ys p q = Unbroken-append (xs ++ codes " ") ys (Unbroken-appen
 Unbroken-numbered : (word : List ℕ) (n : ℕ) → none_passes is_line_feed word ≡ true → Unbroken (word ++ decimal n)
 Unbroken-numbered word n none = Unbroken-append word (decimal n) (none_where is_line_feed word none) (Unbroken-decimal n)
 
-Unbroken-did : (e : Did) → Unbroken (spelled (DidLine e))
+Unbroken-did : (e : Did) → Unbroken (line_spelling (DidLine e))
 Unbroken-did e =
     let slot = codes "did " ++ decimal e.slot in
     let seq = slot ++ codes " " ++ decimal e.seq in
@@ -135,7 +135,7 @@ Unbroken-did e =
     let to_z = Unbroken-spaced y (signed_decimal e.origin.z) to_y (Unbroken-signed e.origin.z) in
     Unbroken-spaced z (ids_text e.got) to_z (Unbroken-ids e.got)
 
-Unbroken-spelled : (line : OutLine) → Unbroken (spelled line)
+Unbroken-spelled : (line : OutLine) → Unbroken (line_spelling line)
 Unbroken-spelled (FrameLine frame) = Unbroken-numbered (codes "frame ") frame refl
 Unbroken-spelled (FromLine port bytes) =
     Unbroken-spaced (codes "from " ++ decimal port) (packet_text bytes) (Unbroken-numbered (codes "from ") port refl) (Unbroken-packet bytes)
@@ -149,16 +149,16 @@ Unbroken-spelled (ToLine slot bytes) =
     (Unbroken-encode lower_digits bytes (none_where is_line_feed lower_digits refl))
 Unbroken-spelled (EndLine frames) = Unbroken-numbered (codes "end ") frames refl
 
-pub each_unbroken : (lines : List OutLine) → AllByRecursion HasNoLineFeed (map spelled lines)
+pub each_unbroken : (lines : List OutLine) → AllByRecursion HasNoLineFeed (map line_spelling lines)
 each_unbroken [] = tt
-each_unbroken (line ∷ lines) = (All-from_recursion (λ b. (b == 10) ≡ false) (spelled line) (Unbroken-spelled line), each_unbroken lines)
+each_unbroken (line ∷ lines) = (All-from_recursion (λ b. (b == 10) ≡ false) (line_spelling line) (Unbroken-spelled line), each_unbroken lines)
 
 -- the whole lines of a text are its lines, spelled
-pub whole_lines-text : (lines : List OutLine) → whole_lines (text_of lines) ≡ map spelled lines
+pub whole_lines-text : (lines : List OutLine) → whole_lines (text_of lines) ≡ map line_spelling lines
 whole_lines-text lines =
-    ap whole_lines (sym (flat_map-map (λ line. line ++ 10 ∷ []) spelled lines) ∙ sym (append-nil (unlines (map spelled lines))))
-    ∙ whole_lines-unlines (map spelled lines) [] (each_unbroken lines)
-    ∙ append-nil (map spelled lines)
+    ap whole_lines (sym (flat_map-map (λ line. line ++ 10 ∷ []) line_spelling lines) ∙ sym (append-nil (unlines (map line_spelling lines))))
+    ∙ whole_lines-unlines (map line_spelling lines) [] (each_unbroken lines)
+    ∙ append-nil (map line_spelling lines)
 
 -- ---- the first word of a line
 
@@ -217,7 +217,7 @@ IsSilent (DidLine did) = ⊥
 IsSilent (ToLine slot bytes) = ⊤
 IsSilent (EndLine frames) = ⊤
 
-mark-silent : (line : OutLine) → IsSilent line → mark_of (spelled line) ≡ Other
+mark-silent : (line : OutLine) → IsSilent line → mark_of (line_spelling line) ≡ Other
 mark-silent (FrameLine frame) silent = absurd silent
 mark-silent (FromLine port bytes) silent = mark-word (codes "from") (decimal port ++ codes " " ++ packet_text bytes) (none_where is_space (codes "from") refl)
 mark-silent (NoLine place why) silent = mark-word (codes "no") (decimal place ++ codes " " ++ name_of why) (none_where is_space (codes "no") refl)
@@ -230,7 +230,7 @@ mark-silent (EndLine frames) silent = mark-word (codes "end") (decimal frames) (
 
 -- the moves that lines report, frame by frame
 abbrev pub split_of : List OutLine → Split
-split_of lines = split_at_frames (map mark_of (map spelled lines))
+split_of lines = split_at_frames (map mark_of (map line_spelling lines))
 
 -- silent lines say nothing to the journals
 pub split-silent : (lines more : List OutLine) → AllByRecursion IsSilent lines → split_of (lines ++ more) ≡ split_of more

@@ -14,12 +14,12 @@ use Rattle.demo_lines.specs.declared.event.Event.TheVariants as events
 use Rattle.demo_lines.specs.Machines.{run_of}
 use Rattle.demo_lines.specs.Known.{Reading, start, is_over, is_map_whole}
 use Rattle.demo_lines.specs.Faults.{has_spawn}
-use Rattle.demo_lines.specs.Said.{place_fault}
+use Rattle.demo_lines.specs.Said.{stage_fault}
 use Rattle.demo_lines.specs.Recording.{next, after_line, event_of, events_of_line, after, events_of}
 use Rattle.demo_lines.specs.Bytes.{lines_of, map_of}
 use Rattle.demo_lines.proofs.Machines.{run_of-append}
 use Rattle.demo_lines.proofs.Taking.{IsTaken}
-use Rattle.out_text.specs.Collecting.{Frames, collect, closing, no_frames, frames_of}
+use Rattle.out_text.specs.Collecting.{Frames, collect, closed_frames, no_frames, frames_of}
 use Rattle.out_text.proofs.EachLine.{of_each_line}
 use Rattle.out_text.proofs.Agreement.{NoneYet, AgreesAt, Agrees, agrees_line}
 
@@ -29,7 +29,7 @@ HasSpawn map = IfSome map (λ m. is_ready m ≡ true)
 
 -- so many frames are closed or open
 abbrev count_of : Frames → ℕ
-count_of f = length f.closed + length (closing f.opened)
+count_of f = length f.closed + length (closed_frames f.opened)
 
 -- with a frame the map has a spawn
 abbrev IsReadyFor : Option MapView → Frames → Type 0
@@ -40,7 +40,7 @@ ready None h = tt
 ready (Some map) h = h
 
 -- the first frame is opened without a fault only where there is a spawn
-spawn_there : (r : Reading) → r.stage ≡ Map → place_fault r lines.Frame ≡ None → has_spawn r.map ≡ true
+spawn_there : (r : Reading) → r.stage ≡ Map → stage_fault r lines.Frame ≡ None → has_spawn r.map ≡ true
 spawn_there r here none =
     by (has_spawn r.map) refl
     (sym (ap (λ s. option_or (option_map faults.Rule (cond (is_map_whole s) None (cond (has_spawn r.map) None (Some rules.NoSpawn)))) (cond (nat_le r.limit r.frames) (Some faults.Count) None)) here) ∙ none)
@@ -51,20 +51,20 @@ spawn_there r here none =
     by false is h = cc
 
 none_ready : (map : Option MapView) (r : Reading) (f : Frames) → NoneYet r f → IsReadyFor map f
-none_ready map r f none some = absurd (omega (arith, some, ap length none.closed, ap (λ o. length (closing o)) none.opened))
+none_ready map r f none some = absurd (omega (arith, some, ap length none.closed, ap (λ o. length (closed_frames o)) none.opened))
 
-size-arrived : (a : Arrival) (o : Option (List Arrival)) → length (closing (option_map (λ arrivals. arrivals ++ a ∷ []) o)) ≡ length (closing o)
+size-arrived : (a : Arrival) (o : Option (List Arrival)) → length (closed_frames (option_map (λ arrivals. arrivals ++ a ∷ []) o)) ≡ length (closed_frames o)
 size-arrived a None = refl
 size-arrived a (Some arrivals) = refl
 
 ended_ready : (map : Option MapView) (f : Frames) → IsReadyFor map f → IsReadyFor map (collect f events.End)
-ended_ready map f is some = is (omega (arith, some, length-append f.closed (closing f.opened)))
+ended_ready map f is some = is (omega (arith, some, length-append f.closed (closed_frames f.opened)))
 
 arrived_ready : (map : Option MapView) (f : Frames) (a : Arrival) → IsReadyFor map f → IsReadyFor map (collect f (events.From a))
 arrived_ready map f a is some = is (omega (arith, some, size-arrived a f.opened))
 
 -- after a line that is taken
-taken_ready : (stage : Stage) (r : Reading) (line : Line) (f : Frames) → r.stage ≡ stage → is_over stage ≡ false → IsTaken stage line → place_fault r line ≡ None → AgreesAt stage r f
+taken_ready : (stage : Stage) (r : Reading) (line : Line) (f : Frames) → r.stage ≡ stage → is_over stage ≡ false → IsTaken stage line → stage_fault r line ≡ None → AgreesAt stage r f
     → IsReadyFor r.map f → IsReadyFor (after_line r (Some line)).map (run_of collect f (event_of (Some line)))
 taken_ready Start r (lines.OfMap line) f here going is none agrees has = none_ready (after_line r (Some (lines.OfMap line))).map r f agrees
 taken_ready Start r lines.Frame f here going is none agrees has = cc
@@ -75,7 +75,7 @@ taken_ready Map r lines.Frame f here going is none agrees has = λ some. ready r
 taken_ready Map r (lines.From a) f here going is none agrees has = cc
 taken_ready Map r lines.End f here going is none agrees has = ended_ready r.map f has
 taken_ready Playing r (lines.OfMap line) f here going is none agrees has = absurd is
-taken_ready Playing r lines.Frame f here going is none agrees has = λ some. has (omega (arith, ap (λ o. length (closing o)) agrees.opened))
+taken_ready Playing r lines.Frame f here going is none agrees has = λ some. has (omega (arith, ap (λ o. length (closed_frames o)) agrees.opened))
 taken_ready Playing r (lines.From a) f here going is none agrees has = arrived_ready r.map f a has
 taken_ready Playing r lines.End f here going is none agrees has = ended_ready r.map f has
 taken_ready Ended r line f here going is none agrees has = cc

@@ -7,7 +7,7 @@ use Rattle.packet_read.specs.declared.arrival.Arrival.{Arrival}
 use Rattle.client_ports.specs.States.{State}
 use Rattle.plain_server.specs.Frames.{received_in, IsRightAfter, state_after, state_played, AreRight, AreInOrder}
 use Rattle.move_journal.specs.Merges.{IsInOrder}
-use Rattle.out_text.specs.OutLines.{OutLine, printed, text_of}
+use Rattle.out_text.specs.OutLines.{OutLine, printed_line, text_of}
 use Rattle.out_text.specs.FrameLines.{lines_with, run_lines}
 
 pub next_number : (frame n : ℕ) → frame + 1 + n ≡ frame + suc n
@@ -139,7 +139,7 @@ in_order-take map frame s (suc k) (arrivals ∷ frames) (j ∷ js) order =
 -- ---- texts
 
 pub text_of-append : (a b : List OutLine) → text_of (a ++ b) ≡ text_of a ++ text_of b
-text_of-append a b = flat_map-append printed a b
+text_of-append a b = flat_map-append printed_line a b
 
 pub same_taken : (k : ℕ) (frames : List (List Arrival)) (js : List (List Entry)) → length js ≡ length frames → length (take k js) ≡ length (take k frames)
 same_taken zero frames js same = refl

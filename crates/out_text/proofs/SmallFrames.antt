@@ -14,12 +14,12 @@ use Rattle.demo_lines.specs.declared.event.Event.{Event}
 use Rattle.demo_lines.specs.declared.event.Event.TheVariants as events
 use Rattle.demo_lines.specs.Machines.{run_of}
 use Rattle.demo_lines.specs.Known.{Reading, start_within, is_over}
-use Rattle.demo_lines.specs.Said.{place_fault}
+use Rattle.demo_lines.specs.Said.{stage_fault}
 use Rattle.demo_lines.specs.Recording.{next, event_of, events_of_line, events_of}
 use Rattle.demo_lines.specs.Bytes.{lines_of}
 use Rattle.demo_lines.proofs.Machines.{run_of-append}
 use Rattle.demo_lines.proofs.Taking.{IsTaken}
-use Rattle.out_text.specs.Collecting.{Frames, collect, collected, closing, no_frames, frames_of}
+use Rattle.out_text.specs.Collecting.{Frames, collect, frames_of_events, closed_frames, no_frames, frames_of}
 use Rattle.out_text.proofs.Saying.{IsSound}
 use Rattle.out_text.proofs.Fitting.{IsShort, HasLine, FitsPacket, FitsLine}
 use Rattle.out_text.proofs.EachLine.{of_each_line}
@@ -49,7 +49,7 @@ small_both : (xs ys : List (List Arrival)) → AreSmallFrames xs → AreSmallFra
 small_both [] ys p q = q
 small_both (x ∷ xs) ys p q = (p.0, small_both xs ys p.1 q)
 
-closing_small : (o : Option (List Arrival)) → IfSome o IsSmallFrame → AreSmallFrames (closing o)
+closing_small : (o : Option (List Arrival)) → IfSome o IsSmallFrame → AreSmallFrames (closed_frames o)
 closing_small None p = tt
 closing_small (Some arrivals) p = (p, tt)
 
@@ -57,10 +57,10 @@ empty_is_small : IsSmallFrame []
 empty_is_small = record { few = omega arith; ports = All-nil HasPort; short = All-nil IsShort; room = All-nil HasLine }
 
 small_next : (f : Frames) → AreSmall f → AreSmall (collect f events.Frame)
-small_next f p = record { closed = small_both f.closed (closing f.opened) p.closed (closing_small f.opened p.opened); opened = empty_is_small }
+small_next f p = record { closed = small_both f.closed (closed_frames f.opened) p.closed (closing_small f.opened p.opened); opened = empty_is_small }
 
 small_ended : (f : Frames) → AreSmall f → AreSmall (collect f events.End)
-small_ended f p = record { closed = small_both f.closed (closing f.opened) p.closed (closing_small f.opened p.opened); opened = tt }
+small_ended f p = record { closed = small_both f.closed (closed_frames f.opened) p.closed (closing_small f.opened p.opened); opened = tt }
 
 -- one packet more, where there are fewer than 512
 opened_with : (o : Option (List Arrival)) (a : Arrival) → IfSome o (λ arrivals. length arrivals < 512) → HasPort a → FitsPacket a → IfSome o IsSmallFrame
@@ -74,7 +74,7 @@ opened_with (Some arrivals) a below port fits small = record {
 }
 
 -- a packet that is taken without a fault is one of the 512
-arrival_below : (r : Reading) (a : Arrival) → place_fault r (lines.From a) ≡ None → r.arrivals < 512
+arrival_below : (r : Reading) (a : Arrival) → stage_fault r (lines.From a) ≡ None → r.arrivals < 512
 arrival_below r a none = by (nat_le 512 r.arrivals) refl none
   where
     by : (full : Bool) → nat_le 512 r.arrivals ≡ full → cond full (Some faults.Count) None ≡ None → r.arrivals < 512
@@ -88,7 +88,7 @@ small_arrived r f a one below port fits small =
     record { closed = small.closed; opened = opened_with f.opened a (subst P (sym one.opened) fewer) port fits small.opened }
 
 -- after a line that is taken
-taken_small : (stage : Stage) (r : Reading) (line : Line) (f : Frames) → is_over stage ≡ false → IsTaken stage line → IsSound line → FitsLine line → place_fault r line ≡ None → AgreesAt stage r f → AreSmall f
+taken_small : (stage : Stage) (r : Reading) (line : Line) (f : Frames) → is_over stage ≡ false → IsTaken stage line → IsSound line → FitsLine line → stage_fault r line ≡ None → AgreesAt stage r f → AreSmall f
     → AreSmall (run_of collect f (event_of (Some line)))
 taken_small Start r (lines.OfMap line) f going is sound fits none agrees small = small
 taken_small Start r lines.Frame f going is sound fits none agrees small = cc
@@ -117,7 +117,7 @@ small_lines r (l ∷ ls) f agrees small =
     subst AreSmall (sym (run_of-append {E = Event} collect (λ _ _. []) f (events_of_line r l) (events_of (next r l) ls))) rest
 
 -- a recording's frames are small
-pub frames_are_small_of : (limit : ℕ) (ls : List (List ℕ)) → AreSmallFrames (collected (events_of (start_within limit) ls)).closed
+pub frames_are_small_of : (limit : ℕ) (ls : List (List ℕ)) → AreSmallFrames (frames_of_events (events_of (start_within limit) ls)).closed
 frames_are_small_of limit ls =
     let r = start_within limit in
     let none : NoneYet r no_frames = record { closed = refl; opened = refl; frames = refl } in

@@ -15,10 +15,10 @@ use Rattle.edge_io.proofs.Decimals.{own, first_of_decimal, natural-decimal, inte
 use Rattle.edge_io.specs.Numbers.{is_digit, natural_up_to, integer_up_to}
 use Rattle.entity_recs.specs.declared.effect.Entry.{Entry}
 use Rattle.out_text.specs.Dids.{Did, did_of}
-use Rattle.out_text.specs.OutLines.{OutLine, FrameLine, DidLine, ids_text, spelled}
+use Rattle.out_text.specs.OutLines.{OutLine, FrameLine, DidLine, ids_text, line_spelling}
 use Rattle.out_text.specs.FrameLines.{did_line}
 use Rattle.out_text.specs.Laws.{IsFrameLine, DidLinesAreRead, FrameLinesAreRead}
-use Rattle.out_text.specs.Journals.{Mark, Opens, Reports, Other, number_at, integer_at, all_there, ids_in, alone, did_in, is_coordinate, has_numbers, has_coordinates, has_ids, is_reportable, where_spelled, frame_mark, did_mark, mark_of, onto}
+use Rattle.out_text.specs.Journals.{Mark, Opens, Reports, Other, number_at, integer_at, all_there, ids_in, value_at_end, did_in, is_coordinate, has_numbers, has_coordinates, has_ids, is_reportable, where_spelled, frame_mark, did_mark, mark_of, onto}
 use Rattle.out_text.proofs.Quiet.{none_where, one_more, cut-word, mark-word, IsSilent, split_of, split-silent}
 
 -- what is in a report that is in range
@@ -176,7 +176,7 @@ cut-last word none =
 
 abbrev from_got : ℕ → ℕ → ℤ → ℤ → ℤ → List ℕ → Option Did
 from_got slot seq x y z rest =
-    field_at rest >>= (λ got. ids_in got.0 >>= (λ ids. alone (record { slot = slot; seq = seq; origin = record { x = x; y = y; z = z }; got = ids }) got.1))
+    field_at rest >>= (λ got. ids_in got.0 >>= (λ ids. value_at_end (record { slot = slot; seq = seq; origin = record { x = x; y = y; z = z }; got = ids }) got.1))
 
 abbrev from_z : ℕ → ℕ → ℤ → ℤ → List ℕ → Option Did
 from_z slot seq x y rest = integer_at rest >>= (λ z. from_got slot seq x y z.0 z.1)
@@ -194,8 +194,8 @@ got-word : (slot seq : ℕ) (x y z : ℤ) (ids word : List ℕ) → Lacks 32 wor
     → from_got slot seq x y z (32 ∷ word) ≡ Some (record { slot = slot; seq = seq; origin = record { x = x; y = y; z = z }; got = ids })
 got-word slot seq x y z ids word none read =
     let did : List ℕ → Did = λ is. record { slot = slot; seq = seq; origin = record { x = x; y = y; z = z }; got = is } in
-    ap (λ (parts : List ℕ × List ℕ). ids_in parts.0 >>= (λ is. alone (did is) parts.1)) (cut-last word none)
-    ∙ ap (λ o. o >>= (λ is. alone (did is) [])) read
+    ap (λ (parts : List ℕ × List ℕ). ids_in parts.0 >>= (λ is. value_at_end (did is) parts.1)) (cut-last word none)
+    ∙ ap (λ o. o >>= (λ is. value_at_end (did is) [])) read
 
 -- a word that is read as a number, and one that is read as a coordinate
 record SpellsNumber (limit n : ℕ) (word : List ℕ) : Type 0 where
@@ -238,8 +238,8 @@ words_on : (slot seq x y z got : List ℕ)
 words_on slot seq x y z got = simp append_assoc
 
 -- a line is itself
-where_spelled-same : (line : OutLine) (mark : Mark) → where_spelled (spelled line) line mark ≡ mark
-where_spelled-same line mark = ap (λ b. cond b mark Other) ((bytes_eq-Decides (spelled line) (spelled line)).1 refl)
+where_spelled-same : (line : OutLine) (mark : Mark) → where_spelled (line_spelling line) line mark ≡ mark
+where_spelled-same line mark = ap (λ b. cond b mark Other) ((bytes_eq-Decides (line_spelling line) (line_spelling line)).1 refl)
 
 -- the words of a report are read as that report
 report-words : (d : Did) → IsReport d → did_in (32 ∷ (decimal d.slot ++ 32 ∷ (decimal d.seq ++ 32 ∷ (signed_decimal d.origin.x
@@ -252,7 +252,7 @@ report-words d is =
     (signed_spells d.origin.x is.x) (signed_spells d.origin.y is.y) (signed_spells d.origin.z is.z) (Lacks-ids d.got is.got) (ids-read d.got is.got)
 
 -- the line of a report is read as that report
-pub mark-did : (d : Did) → IsReport d → is_reportable d ≡ true → mark_of (spelled (DidLine d)) ≡ Reports d
+pub mark-did : (d : Did) → IsReport d → is_reportable d ≡ true → mark_of (line_spelling (DidLine d)) ≡ Reports d
 mark-did d is fits =
     let slot = decimal d.slot in
     let seq = decimal d.seq in
@@ -263,7 +263,7 @@ mark-did d is fits =
     let rest = slot ++ 32 ∷ (seq ++ 32 ∷ (x ++ 32 ∷ (y ++ 32 ∷ (z ++ 32 ∷ got)))) in
     let words = words_on slot seq x y z got in
     ap mark_of words ∙ mark-word (codes "did") rest (none_where is_space (codes "did") refl) ∙ ap (λ line. did_mark line (did_in (32 ∷ rest))) (sym words)
-    ∙ ap (did_mark (spelled (DidLine d))) (report-words d is) ∙ ap (λ b. cond b (where_spelled (spelled (DidLine d)) (DidLine d) (Reports d)) Other) fits
+    ∙ ap (did_mark (line_spelling (DidLine d))) (report-words d is) ∙ ap (λ b. cond b (where_spelled (line_spelling (DidLine d)) (DidLine d) (Reports d)) Other) fits
     ∙ where_spelled-same (DidLine d) (Reports d)
 
 -- the number in the last field
@@ -272,9 +272,9 @@ number-last limit n word none read =
     ap (λ (parts : List ℕ × List ℕ). natural_up_to limit parts.0 >>= (λ m. Some (m, parts.1))) (cut-last word none) ∙ ap (λ o. o >>= (λ m. Some (m, []))) read
 
 -- the line of a frame opens one
-pub mark-frame : (frame : ℕ) → frame ≤ 4294967295 → mark_of (spelled (FrameLine frame)) ≡ Opens
+pub mark-frame : (frame : ℕ) → frame ≤ 4294967295 → mark_of (line_spelling (FrameLine frame)) ≡ Opens
 mark-frame frame small =
-    let line = spelled (FrameLine frame) in
+    let line = line_spelling (FrameLine frame) in
     let is = decimal_spells 4294967295 frame (omega arith) small in
     mark-word (codes "frame") (decimal frame) (none_where is_space (codes "frame") refl)
     ∙ ap (frame_mark line) (number-last 4294967295 frame (decimal frame) is.none is.read)
@@ -330,17 +330,17 @@ no_frame false c e h = cc
 
 did_from_frame : (line : List ℕ) (n : Option (ℕ × List ℕ)) (d : Did) → frame_mark line n ≡ Reports d → ⊥
 did_from_frame line None d h = cc
-did_from_frame line (Some n) d h = no_report (nat_le n.0 4294967295) (bytes_eq line (spelled (FrameLine n.0))) d h
+did_from_frame line (Some n) d h = no_report (nat_le n.0 4294967295) (bytes_eq line (line_spelling (FrameLine n.0))) d h
 
-did_from : (line : List ℕ) (o : Option Did) (d : Did) → did_mark line o ≡ Reports d → (is_reportable d ≡ true) × (line ≡ spelled (DidLine d))
+did_from : (line : List ℕ) (o : Option Did) (d : Did) → did_mark line o ≡ Reports d → (is_reportable d ≡ true) × (line ≡ line_spelling (DidLine d))
 did_from line None d h = cc
 did_from line (Some e) d h =
-    let is = report_is (is_reportable e) (bytes_eq line (spelled (DidLine e))) e d h in
-    let P : Did → Type 0 = λ x. (is_reportable x ≡ true) × (line ≡ spelled (DidLine x)) in
-    subst P is.2 (is.0, (bytes_eq-Decides line (spelled (DidLine e))).0 is.1)
+    let is = report_is (is_reportable e) (bytes_eq line (line_spelling (DidLine e))) e d h in
+    let P : Did → Type 0 = λ x. (is_reportable x ≡ true) × (line ≡ line_spelling (DidLine x)) in
+    subst P is.2 (is.0, (bytes_eq-Decides line (line_spelling (DidLine e))).0 is.1)
 
 did_by_word : (f g : Bool) (line : List ℕ) (n : Option (ℕ × List ℕ)) (o : Option Did) (d : Did) → cond f (frame_mark line n) (cond g (did_mark line o) Other) ≡ Reports d
-    → (is_reportable d ≡ true) × (line ≡ spelled (DidLine d))
+    → (is_reportable d ≡ true) × (line ≡ line_spelling (DidLine d))
 did_by_word true g line n o d h = absurd (did_from_frame line n d h)
 did_by_word false true line n o d h = did_from line o d h
 did_by_word false false line n o d h = cc
@@ -353,13 +353,13 @@ did_lines_are_read line d = (
 
 frame_from_did : (line : List ℕ) (o : Option Did) → did_mark line o ≡ Opens → ⊥
 frame_from_did line None h = cc
-frame_from_did line (Some e) h = no_frame (is_reportable e) (bytes_eq line (spelled (DidLine e))) e h
+frame_from_did line (Some e) h = no_frame (is_reportable e) (bytes_eq line (line_spelling (DidLine e))) e h
 
 frame_from : (line : List ℕ) (n : Option (ℕ × List ℕ)) → frame_mark line n ≡ Opens → IsFrameLine line
 frame_from line None h = cc
 frame_from line (Some n) h =
-    let is = frame_is (nat_le n.0 4294967295) (bytes_eq line (spelled (FrameLine n.0))) h in
-    record { frame = n.0; fits = leb-true n.0 4294967295 is.0; is = (bytes_eq-Decides line (spelled (FrameLine n.0))).0 is.1 }
+    let is = frame_is (nat_le n.0 4294967295) (bytes_eq line (line_spelling (FrameLine n.0))) h in
+    record { frame = n.0; fits = leb-true n.0 4294967295 is.0; is = (bytes_eq-Decides line (line_spelling (FrameLine n.0))).0 is.1 }
 
 frame_by_word : (f g : Bool) (line : List ℕ) (n : Option (ℕ × List ℕ)) (o : Option Did) → cond f (frame_mark line n) (cond g (did_mark line o) Other) ≡ Opens → IsFrameLine line
 frame_by_word true g line n o h = frame_from line n h

@@ -8,7 +8,7 @@ use Rattle.packet_read.specs.declared.arrival.Arrival.{Arrival}
 use Rattle.client_ports.specs.States.{State}
 use Rattle.client_ports.specs.Receiving.{Receiving}
 use Rattle.plain_server.specs.Frames.{received_in, state_after, first_of, rest_of}
-use Rattle.out_text.specs.OutLines.{OutLine, FrameLine, FromLine, NoLine, JoinedLine, DidLine, ToLine, EndLine, printed, spelled, text_of}
+use Rattle.out_text.specs.OutLines.{OutLine, FrameLine, FromLine, NoLine, JoinedLine, DidLine, ToLine, EndLine, printed_line, line_spelling, text_of}
 use Rattle.out_text.specs.FrameLines.{lines_with, run_lines}
 use Rattle.out_text.specs.Feeds.{from_line, with_froms, fed_lines, is_from_line, without_froms}
 use Rattle.out_text.proofs.Quiet.{whole_lines-text}
@@ -16,7 +16,7 @@ use Rattle.out_text.proofs.FedReadBack.{IsOther, rest_lines, rest_are_others}
 
 -- whether a line stays
 abbrev stays : OutLine → Bool
-stays line = not (is_from_line (spelled line))
+stays line = not (is_from_line (line_spelling line))
 
 -- the lines that stay
 abbrev kept : List OutLine → List OutLine
@@ -64,13 +64,13 @@ kept-run arena frame s (fed ∷ feeds) js more =
 without-text : (lines : List OutLine) → without_froms (text_of lines) ≡ text_of (kept lines)
 without-text lines = ap (λ ls. unlines (filter (λ line. not (is_from_line line)) ls)) (whole_lines-text lines) ∙ each lines
   where
-    by : (line : OutLine) (b : Bool) (texts : List (List ℕ)) (ls : List OutLine) → unlines texts ≡ text_of ls → unlines (cond b (spelled line ∷ texts) texts) ≡ text_of (cond b (line ∷ ls) ls)
-    by line true texts ls same = ap (λ t. printed line ++ t) same
+    by : (line : OutLine) (b : Bool) (texts : List (List ℕ)) (ls : List OutLine) → unlines texts ≡ text_of ls → unlines (cond b (line_spelling line ∷ texts) texts) ≡ text_of (cond b (line ∷ ls) ls)
+    by line true texts ls same = ap (λ t. printed_line line ++ t) same
     by line false texts ls same = same
 
-    each : (ls : List OutLine) → unlines (filter (λ line. not (is_from_line line)) (map spelled ls)) ≡ text_of (kept ls)
+    each : (ls : List OutLine) → unlines (filter (λ line. not (is_from_line line)) (map line_spelling ls)) ≡ text_of (kept ls)
     each [] = refl
-    each (line ∷ ls) = by line (stays line) (filter (λ text. not (is_from_line text)) (map spelled ls)) (kept ls) (each ls)
+    each (line ∷ ls) = by line (stays line) (filter (λ text. not (is_from_line text)) (map line_spelling ls)) (kept ls) (each ls)
 
 -- the text of frames
 pub without-run : (arena : MapView) (frame : ℕ) (s : State) (feeds : List (List Arrival)) (js : List (List Entry))

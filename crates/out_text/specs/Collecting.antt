@@ -16,25 +16,25 @@ abbrev pub no_frames : Frames
 no_frames = record { closed = []; opened = None }
 
 -- the frame that was open, now closed
-abbrev pub closing : Option (List Arrival) → List (List Arrival)
-closing None = []
-closing (Some arrivals) = arrivals ∷ []
+abbrev pub closed_frames : Option (List Arrival) → List (List Arrival)
+closed_frames None = []
+closed_frames (Some arrivals) = arrivals ∷ []
 
 -- a frame closes the one before it, and so does the end
 abbrev pub collect : Frames → Event → Frames
-collect frames Frame = record { closed = frames.closed ++ closing frames.opened; opened = Some [] }
+collect frames Frame = record { closed = frames.closed ++ closed_frames frames.opened; opened = Some [] }
 collect frames (From a) =
     record { closed = frames.closed; opened = option_map (λ arrivals. arrivals ++ a ∷ []) frames.opened }
-collect frames End = record { closed = frames.closed ++ closing frames.opened; opened = None }
+collect frames End = record { closed = frames.closed ++ closed_frames frames.opened; opened = None }
 
 -- the frames that these events make
-abbrev pub collected : List Event → Frames
-collected es = run_of collect no_frames es
+abbrev pub frames_of_events : List Event → Frames
+frames_of_events es = run_of collect no_frames es
 
 -- the frames that a recording closes, which may have so many, each with its packets
 abbrev pub frames_within : ℕ → List ℕ → List (List Arrival)
-frames_within limit bytes = (collected (events_within limit bytes)).closed
+frames_within limit bytes = (frames_of_events (events_within limit bytes)).closed
 
 -- the frames that a recording closes, each with its packets
 abbrev pub frames_of : List ℕ → List (List Arrival)
-frames_of bytes = (collected (events bytes)).closed
+frames_of bytes = (frames_of_events (events bytes)).closed

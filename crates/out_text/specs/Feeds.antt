@@ -201,7 +201,7 @@ abbrev pub IsFedCut : ℕ → List ℕ → Option (List ℕ) → Option (List En
 IsFedCut workers bytes order last text =
     IsFedCutFrame workers bytes order last text ⊎ IsFedCutEnd workers bytes order last text
 
--- the text is that of all closed frames of a recording whose first faulty line is this one, for this reason
+-- the text is that of all closed frames of a recording whose first faulty line is this one, for this fault
 pub record IsFedRefused (workers : ℕ) (bytes : List ℕ) (why : LineRefusal) (text : List ℕ) : Type 0 where
   pub faulty : fault bytes ≡ Some why
   pub frames : IsFedFrames workers bytes text

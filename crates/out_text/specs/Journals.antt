@@ -8,7 +8,7 @@ use Rattle.edge_io.specs.Fields.{◌>>=◌}
 use Rattle.edge_io.specs.WholeLines.{whole_lines}
 use Rattle.entity_recs.specs.declared.effect.Entry.{Entry}
 use Rattle.out_text.specs.Dids.{Did, journal_from}
-use Rattle.out_text.specs.OutLines.{OutLine, FrameLine, DidLine, spelled}
+use Rattle.out_text.specs.OutLines.{OutLine, FrameLine, DidLine, line_spelling}
 
 -- a number of at most limit, and what follows it
 abbrev pub number_at : ℕ → List ℕ → Option (ℕ × List ℕ)
@@ -39,9 +39,9 @@ ids_in text =
     then Some [] else all_there (map (natural_up_to 65535) (slice_split (λ b. b == 44) text))
 
 -- a value, where nothing follows it
-abbrev pub alone : {X : Type 0} → X → List ℕ → Option X
-alone x [] = Some x
-alone x (b ∷ bytes) = None
+abbrev pub value_at_end : {X : Type 0} → X → List ℕ → Option X
+value_at_end x [] = Some x
+value_at_end x (b ∷ bytes) = None
 
 -- what a `did` line reports after its first word
 abbrev pub did_in : List ℕ → Option Did
@@ -53,7 +53,7 @@ did_in rest = do
   z ← integer_at y.1
   got ← field_at z.1
   ids ← ids_in got.0
-  alone (record { slot = slot.0; seq = seq.0; origin = record { x = x.0; y = y.0; z = z.0 }; got = ids }) got.1
+  value_at_end (record { slot = slot.0; seq = seq.0; origin = record { x = x.0; y = y.0; z = z.0 }; got = ids }) got.1
 
 -- what a line is to the journals: it opens a frame, reports a move, or neither
 pub data Mark : Type 0 where
@@ -83,7 +83,7 @@ is_reportable d = has_numbers d && (has_coordinates d && has_ids d)
 
 -- the mark, where the line is this one's spelling
 abbrev pub where_spelled : List ℕ → OutLine → Mark → Mark
-where_spelled line out mark = if bytes_eq line (spelled out) then mark else Other
+where_spelled line out mark = if bytes_eq line (line_spelling out) then mark else Other
 
 -- a line that reads as that of a frame with this number
 abbrev pub frame_mark : List ℕ → Option (ℕ × List ℕ) → Mark

@@ -15,7 +15,7 @@ use Rattle.plain_server.specs.Frames.{AreInOrder, state_after_tick}
 use Rattle.demo_lines.specs.Bytes.{LineRefusal, events, fault, map_of}
 use Rattle.demo_lines.specs.Spelling.{IsRecording, recording_text, frame_events, recording_events}
 use Rattle.out_text.specs.Dids.{Did}
-use Rattle.out_text.specs.OutLines.{OutLine, FrameLine, DidLine, spelled}
+use Rattle.out_text.specs.OutLines.{OutLine, FrameLine, DidLine, line_spelling}
 use Rattle.out_text.specs.Ranges.{IsInRange, IsPrinted}
 use Rattle.out_text.specs.Reading.{line_in}
 use Rattle.out_text.specs.Journals.{Opens, Reports, is_reportable, mark_of, dids}
@@ -30,13 +30,13 @@ use Rattle.out_text.specs.LastMoves.{IsLastMove, IsShownAt, IsLiveAt}
 -- a line reports a move exactly where it is the `did` line of one that is in range
 abbrev pub DidLinesAreRead : Type 0
 DidLinesAreRead =
-    (line : List ℕ) (d : Did) → (mark_of line ≡ Reports d) ↔ ((is_reportable d ≡ true) × (line ≡ spelled (DidLine d)))
+    (line : List ℕ) (d : Did) → (mark_of line ≡ Reports d) ↔ ((is_reportable d ≡ true) × (line ≡ line_spelling (DidLine d)))
 
 -- the line of a frame, with a number of 32 bits
 pub record IsFrameLine (line : List ℕ) : Type 0 where
   pub frame : ℕ
   pub fits : frame ≤ 4294967295
-  pub is : line ≡ spelled (FrameLine frame)
+  pub is : line ≡ line_spelling (FrameLine frame)
 
 -- a line opens a frame exactly where it is a frame's
 abbrev pub FrameLinesAreRead : Type 0
@@ -93,7 +93,7 @@ LinesReadBack = (line : List ℕ) (l : OutLine) → (line_in line ≡ Some l) �
 
 -- no two lines in range are printed alike
 abbrev pub LinesArePrintedApart : Type 0
-LinesArePrintedApart = (l k : OutLine) → IsInRange l → IsInRange k → spelled l ≡ spelled k → l ≡ k
+LinesArePrintedApart = (l k : OutLine) → IsInRange l → IsInRange k → line_spelling l ≡ line_spelling k → l ≡ k
 
 -- the map of a recording keeps the rules of maps, and a recording without a fault has one
 pub record RecordingsHaveMaps : Type 0 where
@@ -132,7 +132,7 @@ FramesHaveOneReplyEach =
     → let r = received_in map frame state arrivals in
     HasOneReplyEach frame (moved_by map r journal).records (lines_with map frame r journal)
 
--- the lines of a frame have one `no` line for each packet that was refused, with its place and the reason, and one
+-- the lines of a frame have one `no` line for each packet that was refused, with its place and the refusal, and one
 -- `joined` line for each that joined, in the order of arrival, and no other; the other packets leave, or give the moves
 -- of the frame: one at least, and at most as many as they have commands
 abbrev pub FramesAnswerTheirPackets : Type 0

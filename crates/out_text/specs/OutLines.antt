@@ -50,21 +50,21 @@ ids_text [] = codes "-"
 ids_text (id ∷ ids) = join_with_byte 44 (map decimal (id ∷ ids))
 
 -- a line without its line feed
-abbrev pub spelled : OutLine → List ℕ
-spelled (FrameLine frame) = codes "frame " ++ decimal frame
-spelled (FromLine port bytes) = codes "from " ++ decimal port ++ codes " " ++ packet_text bytes
-spelled (NoLine place why) = codes "no " ++ decimal place ++ codes " " ++ name_of why
-spelled (JoinedLine port slot) = codes "joined " ++ decimal port ++ codes " " ++ decimal slot
-spelled (DidLine e) =
+abbrev pub line_spelling : OutLine → List ℕ
+line_spelling (FrameLine frame) = codes "frame " ++ decimal frame
+line_spelling (FromLine port bytes) = codes "from " ++ decimal port ++ codes " " ++ packet_text bytes
+line_spelling (NoLine place why) = codes "no " ++ decimal place ++ codes " " ++ name_of why
+line_spelling (JoinedLine port slot) = codes "joined " ++ decimal port ++ codes " " ++ decimal slot
+line_spelling (DidLine e) =
     codes "did " ++ decimal e.slot ++ codes " " ++ decimal e.seq ++ codes " " ++ signed_decimal e.origin.x
     ++ codes " " ++ signed_decimal e.origin.y ++ codes " " ++ signed_decimal e.origin.z ++ codes " " ++ ids_text e.got
-spelled (ToLine slot bytes) = codes "to " ++ decimal slot ++ codes " " ++ encode_lower bytes
-spelled (EndLine frames) = codes "end " ++ decimal frames
+line_spelling (ToLine slot bytes) = codes "to " ++ decimal slot ++ codes " " ++ encode_lower bytes
+line_spelling (EndLine frames) = codes "end " ++ decimal frames
 
 -- a line and its line feed
-abbrev pub printed : OutLine → List ℕ
-printed line = spelled line ++ 10 ∷ []
+abbrev pub printed_line : OutLine → List ℕ
+printed_line line = line_spelling line ++ 10 ∷ []
 
 -- lines, each ended by a line feed
 abbrev pub text_of : List OutLine → List ℕ
-text_of lines = flat_map printed lines
+text_of lines = flat_map printed_line lines

@@ -98,7 +98,7 @@ pub record IsCutEnd (workers : ℕ) (bytes : List ℕ) (last : Option (List Entr
 abbrev pub IsCut : ℕ → List ℕ → Option (List Entry) → List ℕ → Type 0
 IsCut workers bytes last text = IsCutFrame workers bytes last text ⊎ IsCutEnd workers bytes last text
 
--- the text is that of all closed frames of a recording whose first faulty line is this one, for this reason
+-- the text is that of all closed frames of a recording whose first faulty line is this one, for this fault
 pub record IsRefused (workers : ℕ) (bytes : List ℕ) (why : LineRefusal) (text : List ℕ) : Type 0 where
   pub faulty : fault bytes ≡ Some why
   pub frames : IsAllFrames workers bytes text

@@ -6,7 +6,7 @@ use Rattle.packet_read.specs.declared.arrival.TheConstants.{MOST_BYTES}
 use Rattle.snapshot_write.specs.declared.reply_buf.TheConstants.{REPLY_ROOM}
 use Rattle.arena_geo.specs.Vectors.{Fits}
 use Rattle.out_text.specs.Dids.{Did}
-use Rattle.out_text.specs.OutLines.{OutLine, FrameLine, FromLine, NoLine, JoinedLine, DidLine, ToLine, EndLine, spelled}
+use Rattle.out_text.specs.OutLines.{OutLine, FrameLine, FromLine, NoLine, JoinedLine, DidLine, ToLine, EndLine, line_spelling}
 
 -- a port, and a packet's bytes
 pub record IsPacketInRange (port : ℕ) (bytes : List ℕ) : Type 0 where
@@ -47,7 +47,7 @@ IsInRange (EndLine frames) = frames < 2 ^ 32
 -- the text is what is printed of the line, which is in range
 pub record IsPrinted (text : List ℕ) (l : OutLine) : Type 0 where
   pub in_range : IsInRange l
-  pub spelled : text ≡ spelled l
+  pub spelled : text ≡ line_spelling l
 
 -- a packet has at most 252 bytes, and a snapshot has at least one byte and fits a reply
 abbrev pub HasRoom : OutLine → Type 0

@@ -13,16 +13,16 @@ use Rattle.packet_read.specs.declared.packet_fault.PacketFault.TheVariants.{Empt
 use Rattle.packet_read.specs.declared.packet_fault.PacketFault.TheVariants.{Buttons, Count}
 use Rattle.snapshot_write.specs.declared.reply_buf.TheConstants.{REPLY_ROOM}
 use Rattle.out_text.specs.OutLines.{OutLine, FrameLine, FromLine, NoLine, JoinedLine, DidLine, ToLine, EndLine, name_of}
-use Rattle.out_text.specs.Journals.{number_at, all_there, ids_in, alone, is_coordinate}
+use Rattle.out_text.specs.Journals.{number_at, all_there, ids_in, value_at_end, is_coordinate}
 
 -- the value, where it passes the test
-abbrev pub passing : {X : Type 0} → (X → Bool) → Option X → Option X
-passing test None = None
-passing test (Some x) = if test x then Some x else None
+abbrev pub value_if_passing : {X : Type 0} → (X → Bool) → Option X → Option X
+value_if_passing test None = None
+value_if_passing test (Some x) = if test x then Some x else None
 
 -- a number of 32 bits with a sign
 abbrev pub within : Option ℤ → Option ℤ
-within z = passing is_coordinate z
+within z = value_if_passing is_coordinate z
 
 -- a coordinate, and what follows it
 abbrev pub coordinate_at : List ℕ → Option (ℤ × List ℕ)
@@ -49,7 +49,7 @@ listed_in text = all_there (map (natural_up_to 65535) (parts_of text))
 
 -- at most 8 ids
 abbrev pub few_ids : Option (List ℕ) → Option (List ℕ)
-few_ids ids = passing (λ ids. nat_le (length ids) 8) ids
+few_ids ids = value_if_passing (λ ids. nat_le (length ids) 8) ids
 
 -- the refusals, each once
 abbrev pub refusals : List Refusal
@@ -81,33 +81,33 @@ bytes_in text = if is_hex_text text then without_error (decode_of text) else Non
 -- the bytes of a packet: a dash for none, or the digits of at most 252
 abbrev pub packet_in : List ℕ → Option (List ℕ)
 packet_in text =
-    if bytes_eq text (codes "-") then Some [] else passing (λ bytes. nat_le (length bytes) 252) (bytes_in text)
+    if bytes_eq text (codes "-") then Some [] else value_if_passing (λ bytes. nat_le (length bytes) 252) (bytes_in text)
 
 -- what the rest of a line says after its first word
 abbrev pub frame_in : List ℕ → Option OutLine
 frame_in rest = do
   frame ← number_at 4294967295 rest
-  alone (FrameLine frame.0) frame.1
+  value_at_end (FrameLine frame.0) frame.1
 
 abbrev pub from_in : List ℕ → Option OutLine
 from_in rest = do
   port ← number_at 65535 rest
   text ← field_at port.1
   bytes ← packet_in text.0
-  alone (FromLine port.0 bytes) text.1
+  value_at_end (FromLine port.0 bytes) text.1
 
 abbrev pub no_in : List ℕ → Option OutLine
 no_in rest = do
   place ← number_at 4294967295 rest
   name ← field_at place.1
   why ← refusal_of name.0
-  alone (NoLine place.0 why) name.1
+  value_at_end (NoLine place.0 why) name.1
 
 abbrev pub joined_in : List ℕ → Option OutLine
 joined_in rest = do
   port ← number_at 65535 rest
   slot ← number_at 255 port.1
-  alone (JoinedLine port.0 slot.0) slot.1
+  value_at_end (JoinedLine port.0 slot.0) slot.1
 
 abbrev pub did_line_in : List ℕ → Option OutLine
 did_line_in rest = do
@@ -116,19 +116,19 @@ did_line_in rest = do
   origin ← origin_at seq.1
   field ← field_at origin.1
   got ← few_ids (ids_in field.0)
-  alone (DidLine (record { slot = slot.0; seq = seq.0; origin = origin.0; got = got })) field.1
+  value_at_end (DidLine (record { slot = slot.0; seq = seq.0; origin = origin.0; got = got })) field.1
 
 abbrev pub to_in : List ℕ → Option OutLine
 to_in rest = do
   slot ← number_at 255 rest
   text ← field_at slot.1
   bytes ← bytes_in text.0
-  alone (ToLine slot.0 bytes) text.1
+  value_at_end (ToLine slot.0 bytes) text.1
 
 abbrev pub end_in : List ℕ → Option OutLine
 end_in rest = do
   frames ← number_at 4294967295 rest
-  alone (EndLine frames.0) frames.1
+  value_at_end (EndLine frames.0) frames.1
 
 -- what a line is read as, by its first word
 abbrev pub line_in : List ℕ → Option OutLine

@@ -72,7 +72,7 @@ pub fn frames_have_one_reply_each()
     ensures { FramesHaveOneReplyEach }
 {}
 
-/// The lines of a frame have one `no` line for each packet that was refused, with its place and the reason, and one
+/// The lines of a frame have one `no` line for each packet that was refused, with its place and the refusal, and one
 /// `joined` line for each that joined, in the order of arrival, and no other. Each other packet makes its client leave,
 /// or gives moves: one at least, and at most as many as it has commands.
 pub fn frames_answer_their_packets()

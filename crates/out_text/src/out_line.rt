@@ -97,7 +97,7 @@ impl Printed for Joined {
 }
 
 /// The same ids in a list of their own.
-fn copied(ids: &IdList) -> IdList
+fn copy_of(ids: &IdList) -> IdList
     ensures { result ≡ ids.now }
 {
     let mut copy = IdList::new();
@@ -119,7 +119,7 @@ impl Printed for Entry {
             slot: self.slot,
             seq: self.seq,
             origin: self.reply.origin,
-            got: copied(&self.reply.got),
+            got: copy_of(&self.reply.got),
         }
     }
 }

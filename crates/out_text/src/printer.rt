@@ -1,5 +1,5 @@
 ghost use Rattle.std.specs.Prelude.{◌≡◌, ◌+◌, ◌≤◌, [], ◌++◌, length, map, All, IfOk, OnOk, OnErr, IsOk};
-ghost use Rattle.out_text.specs.OutLines.{printed, text_of};
+ghost use Rattle.out_text.specs.OutLines.{printed_line, text_of};
 ghost use Rattle.out_text.specs.FrameLines.{reply_lines, answer_lines, given_lines};
 ghost use Rattle.out_text.specs.Feeds.{from_line, with_froms};
 ghost use Rattle.out_text.specs.Printing.{line_of};
@@ -60,10 +60,10 @@ impl Printer {
     pub fn print<K: Sink>(&mut self, line: &OutLine, sink: &mut K) -> Result<(), Failed>
         requires { HasRoom (line_of line.now) }
         ensures ok { OnOk result
-            (Prints K.taken K.faults K.room sink.old sink.new self.old self.new (printed (line_of line.now))) }
+            (Prints K.taken K.faults K.room sink.old sink.new self.old self.new (printed_line (line_of line.now))) }
         ensures err { OnErr result
-            (FailsIn K.taken K.faults sink.old sink.new (self.old ++ printed (line_of line.now))) }
-        ensures sure { length self.old + length (printed (line_of line.now)) ≤ K.room sink.old → IsOk result }
+            (FailsIn K.taken K.faults sink.old sink.new (self.old ++ printed_line (line_of line.now))) }
+        ensures sure { length self.old + length (printed_line (line_of line.now)) ≤ K.room sink.old → IsOk result }
         ensures emptied { OnErr result (self.new ≡ []) }
     {
         self.line.clear();

@@ -136,7 +136,7 @@ fn push_digits(out: &mut LineBuf, bytes: &[u8])
 /// Prints the line that opens a frame.
 fn print_frame(frame: u32, out: &mut LineBuf)
     requires { out.old ≡ [] }
-    ensures { out.new ≡ lines.spelled (FrameLine frame) }
+    ensures { out.new ≡ lines.line_spelling (FrameLine frame) }
 {
     out.extend(b"frame ");
     push_number(out, frame);
@@ -158,7 +158,7 @@ fn push_packet(out: &mut LineBuf, bytes: &[u8])
 fn print_from(port: u16, bytes: &[u8], out: &mut LineBuf)
     requires empty { out.old ≡ [] }
     requires short { length bytes.now ≤ 252 }
-    ensures { out.new ≡ lines.spelled (FromLine port bytes.now) }
+    ensures { out.new ≡ lines.line_spelling (FromLine port bytes.now) }
 {
     out.extend(b"from ");
     push_number(out, u32::from(port));
@@ -169,7 +169,7 @@ fn print_from(port: u16, bytes: &[u8], out: &mut LineBuf)
 /// Prints the line of a refused packet.
 fn print_no(place: u32, why: Refusal, out: &mut LineBuf)
     requires { out.old ≡ [] }
-    ensures { out.new ≡ lines.spelled (NoLine place why) }
+    ensures { out.new ≡ lines.line_spelling (NoLine place why) }
 {
     out.extend(b"no ");
     push_number(out, place);
@@ -180,7 +180,7 @@ fn print_no(place: u32, why: Refusal, out: &mut LineBuf)
 /// Prints the line of a player that joined.
 fn print_joined(port: u16, slot: u8, out: &mut LineBuf)
     requires { out.old ≡ [] }
-    ensures { out.new ≡ lines.spelled (JoinedLine port slot) }
+    ensures { out.new ≡ lines.line_spelling (JoinedLine port slot) }
 {
     out.extend(b"joined ");
     push_number(out, u32::from(port));
@@ -191,7 +191,7 @@ fn print_joined(port: u16, slot: u8, out: &mut LineBuf)
 fn print_did(slot: u8, seq: u32, origin: Vec3, got: &[u16], out: &mut LineBuf)
     requires empty { out.old ≡ [] }
     requires few { length got.now ≤ 8 }
-    ensures { out.new ≡ lines.spelled (DidLine (record { slot = slot; seq = seq; origin = origin; got = got.now })) }
+    ensures { out.new ≡ lines.line_spelling (DidLine (record { slot = slot; seq = seq; origin = origin; got = got.now })) }
 {
     out.extend(b"did ");
     push_number(out, u32::from(slot));
@@ -207,7 +207,7 @@ fn print_did(slot: u8, seq: u32, origin: Vec3, got: &[u16], out: &mut LineBuf)
 fn print_to(slot: u8, bytes: &[u8], out: &mut LineBuf)
     requires empty { out.old ≡ [] }
     requires short { length bytes.now ≤ REPLY_ROOM }
-    ensures { out.new ≡ lines.spelled (ToLine slot bytes.now) }
+    ensures { out.new ≡ lines.line_spelling (ToLine slot bytes.now) }
 {
     out.extend(b"to ");
     push_number(out, u32::from(slot));
@@ -218,7 +218,7 @@ fn print_to(slot: u8, bytes: &[u8], out: &mut LineBuf)
 /// Prints the output's last line.
 fn print_end(frames: u32, out: &mut LineBuf)
     requires { out.old ≡ [] }
-    ensures { out.new ≡ lines.spelled (EndLine frames) }
+    ensures { out.new ≡ lines.line_spelling (EndLine frames) }
 {
     out.extend(b"end ");
     push_number(out, frames);
@@ -229,7 +229,7 @@ fn print_end(frames: u32, out: &mut LineBuf)
 pub fn print_line(l: &OutLine, out: &mut LineBuf)
     requires empty { out.old ≡ [] }
     requires room { HasRoom (line_of l.now) }
-    ensures { out.new ≡ lines.spelled (line_of l.now) }
+    ensures { out.new ≡ lines.line_spelling (line_of l.now) }
 {
     match l {
         OutLine::Frame(frame) => print_frame(*frame, out),

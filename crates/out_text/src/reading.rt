@@ -41,7 +41,7 @@ const REFUSALS: [Refusal; 15] = [
 ];
 
 /// The one of these with this name.
-fn named(refusals: &[Refusal], name: &[u8]) -> Option<Refusal>
+fn refusal_named(refusals: &[Refusal], name: &[u8]) -> Option<Refusal>
     ensures { result ≡ find (λ why. bytes_eq (name_of why) name.now) refusals.now }
 {
     for why in refusals {
@@ -56,12 +56,12 @@ fn named(refusals: &[Refusal], name: &[u8]) -> Option<Refusal>
 fn refusal_of(name: &[u8]) -> Option<Refusal>
     ensures { result ≡ reading.refusal_of name.now }
 {
-    named(&REFUSALS, name)
+    refusal_named(&REFUSALS, name)
 }
 
 /// The line, where nothing more is on it.
-fn alone<'a>(line: OutLine<'a>, rest: &[u8]) -> Option<OutLine<'a>>
-    ensures { option_map line_of result ≡ journals.alone (line_of line.entry) rest.now }
+fn line_at_end<'a>(line: OutLine<'a>, rest: &[u8]) -> Option<OutLine<'a>>
+    ensures { option_map line_of result ≡ journals.value_at_end (line_of line.entry) rest.now }
 {
     if rest.is_empty() { Some(line) } else { None }
 }
@@ -71,7 +71,7 @@ fn frame_in(rest: &[u8]) -> Option<OutLine<'static>>
     ensures { option_map line_of result ≡ reading.frame_in rest.now }
 {
     let (frame, rest) = number_at(rest, MOST)?;
-    alone(OutLine::Frame(frame as u32), rest)
+    line_at_end(OutLine::Frame(frame as u32), rest)
 }
 
 /// The line of a refused packet.
@@ -81,7 +81,7 @@ fn no_in(rest: &[u8]) -> Option<OutLine<'static>>
     let (place, rest) = number_at(rest, MOST)?;
     let (name, rest) = field_at(rest)?;
     let why = refusal_of(name)?;
-    alone(
+    line_at_end(
         OutLine::No {
             place: place as u32,
             why,
@@ -96,7 +96,7 @@ fn joined_in(rest: &[u8]) -> Option<OutLine<'static>>
 {
     let (port, rest) = number_at(rest, 65_535)?;
     let (slot, rest) = number_at(rest, 255)?;
-    alone(
+    line_at_end(
         OutLine::Joined {
             port: port as u16,
             slot: slot as u8,
@@ -172,7 +172,7 @@ fn did_in(rest: &[u8]) -> Option<OutLine<'static>>
     let (origin, rest) = origin_at(rest)?;
     let (field, rest) = field_at(rest)?;
     let got = ids_in(field)?;
-    alone(
+    line_at_end(
         OutLine::Did {
             slot: slot as u8,
             seq: seq as u32,
@@ -246,7 +246,7 @@ fn from_in<'a>(rest: &[u8], bytes: &'a mut ReplyBuf) -> Option<OutLine<'a>>
     if !read_packet_bytes(text, bytes) {
         return None;
     }
-    alone(
+    line_at_end(
         OutLine::From {
             port: port as u16,
             bytes: bytes.as_slice(),
@@ -265,7 +265,7 @@ fn to_in<'a>(rest: &[u8], bytes: &'a mut ReplyBuf) -> Option<OutLine<'a>>
     if !read_bytes(text, bytes) {
         return None;
     }
-    alone(
+    line_at_end(
         OutLine::To {
             slot: slot as u8,
             bytes: bytes.as_slice(),
@@ -279,7 +279,7 @@ fn end_in(rest: &[u8]) -> Option<OutLine<'static>>
     ensures { option_map line_of result ≡ reading.end_in rest.now }
 {
     let (frames, rest) = number_at(rest, MOST)?;
-    alone(OutLine::End(frames as u32), rest)
+    line_at_end(OutLine::End(frames as u32), rest)
 }
 
 /// The line, as a function of its bytes.

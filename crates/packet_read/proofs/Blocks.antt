@@ -8,7 +8,7 @@ use Rattle.std.proofs.lemmas.List.Elements.{All-nil, All-cons, All-head, All-tai
 use Rattle.byte_lists.specs.Bytes.{AreBytes}
 use Rattle.packet_read.specs.declared.block_list.CmdBlock.{CmdBlock}
 use Rattle.packet_read.specs.Spelling.{block_fields, IsAllowedBlock, BlockFits}
-use Rattle.packet_read.specs.Cause.{block_in, blocks_from, is_wrong_time, is_above_the_shot}
+use Rattle.packet_read.specs.Faults.{block_in, blocks_from, is_wrong_time, is_above_the_shot}
 use Rattle.packet_read.proofs.Fields.{wish_again, wish_cells}
 
 -- ---- read as they were written

@@ -7,7 +7,7 @@ use Rattle.std.proofs.lemmas.Nat.{from_le_bytes-to_le_bytes_2, from_le_bytes-to_
 use Rattle.std.proofs.lemmas.List.Elements.{All-from_recursion}
 use Rattle.byte_lists.specs.Bytes.{AreBytes}
 use Rattle.packet_read.specs.declared.move_packet.MovePacket.{MovePacket}
-use Rattle.packet_read.specs.declared.packet.Packet.TheVariants.{Step}
+use Rattle.packet_read.specs.declared.packet.Packet.TheVariants.{Move}
 use Rattle.packet_read.specs.Spelling.{spelling, MoveFits}
 use Rattle.packet_read.specs.Reading.{move_in}
 
@@ -16,7 +16,7 @@ pub wish_again : (z : ℤ) → FitsSigned w16 z → cast_signed w16 (from_le_byt
 wish_again z fits = rw (from_le_bytes-to_le_bytes_2 (cast_unsigned w16 z) (omega (arith, ints))) (to_z-of_z w16 z fits)
 
 -- a move is read as it was written
-pub move_again : (m : MovePacket) → MoveFits m → move_in (spelling (Step m)) ≡ m
+pub move_again : (m : MovePacket) → MoveFits m → move_in (spelling (Move m)) ≡ m
 move_again m fits =
     rw (from_le_bytes-to_le_bytes_4 m.seq fits.seq, wish_again m.wish_x fits.wish_x, wish_again m.wish_y fits.wish_y) refl
 
@@ -30,7 +30,7 @@ wish_cells a b ha hb =
     rw (of_z-to_z w16 n fits, low, high) refl
 
 -- the bytes of a move
-pub move-bytes : (m : MovePacket) → m.ms < 256 → m.buttons < 256 → AreBytes (spelling (Step m))
+pub move-bytes : (m : MovePacket) → m.ms < 256 → m.buttons < 256 → AreBytes (spelling (Move m))
 move-bytes m ms buttons =
-    All-from_recursion (λ b. b < 256) (spelling (Step m))
+    All-from_recursion (λ b. b < 256) (spelling (Move m))
     (omega arith, (omega arith, (omega arith, (omega arith, (omega arith, (omega arith, (ms, (omega arith, (omega arith, (omega arith, (omega arith, (buttons, tt))))))))))))

@@ -1,7 +1,7 @@
 pub mod Fields
 pub mod Blocks
 pub mod Loops
-pub mod Steps
+pub mod ManyMoves
 pub mod Again
 pub mod Rules
 pub mod Numbers

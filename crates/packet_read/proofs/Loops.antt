@@ -6,7 +6,7 @@ use Rattle.std.proofs.lemmas.List.Concat.{flat_map-append}
 use Rattle.std.proofs.lemmas.List.Elements.{All-nil, All-cons, All-append}
 use Rattle.packet_read.specs.declared.block_list.CmdBlock.{CmdBlock}
 use Rattle.packet_read.specs.Spelling.{block_fields, BlockFits}
-use Rattle.packet_read.specs.Cause.{block_in, blocks_from}
+use Rattle.packet_read.specs.Faults.{block_in, blocks_from}
 
 -- ---- reading
 

@@ -10,15 +10,15 @@ use Rattle.std.proofs.lemmas.Bool.{false≢true, ltb-false, or_parts, cases_eq}
 use Rattle.byte_lists.specs.Bytes.{AreBytes, byte}
 use Rattle.byte_lists.proofs.Bytes.{number_cells}
 use Rattle.packet_read.specs.declared.packet.Packet.{Packet}
-use Rattle.packet_read.specs.declared.packet.Packet.TheVariants.{Join, Step, Leave, Steps}
+use Rattle.packet_read.specs.declared.packet.Packet.TheVariants.{Join, Move, Leave, Moves}
 use Rattle.packet_read.specs.declared.packet_fault.PacketFault.{PacketFault}
 use Rattle.packet_read.specs.declared.packet_fault.PacketFault.TheVariants.{Empty, Version, Kind, Short, Long, Time, Buttons, Count}
-use Rattle.packet_read.specs.Spelling.{move_fields, IsAllowedBlock, IsAllowedSteps, MoveFits, Spells}
-use Rattle.packet_read.specs.Cause.{form_in, blocks_from, breaks, cause_of}
-use Rattle.packet_read.specs.Reading.{move_in, steps_in, packet_of, answer, reading}
+use Rattle.packet_read.specs.Spelling.{move_fields, IsAllowedBlock, IsAllowedMoves, MoveFits, Spells}
+use Rattle.packet_read.specs.Faults.{form_in, blocks_from, breaks, fault_of}
+use Rattle.packet_read.specs.Reading.{move_in, moves_in, packet_of, answer, reading}
 use Rattle.packet_read.proofs.Fields.{wish_cells}
 use Rattle.packet_read.proofs.Blocks.{blocks_spelled, blocks_fit, blocks_allowed, length_blocks}
-use Rattle.packet_read.proofs.Steps.{min_is}
+use Rattle.packet_read.proofs.ManyMoves.{min_is}
 use Rattle.packet_read.proofs.Again.{packet_again}
 
 -- the bytes break no rule
@@ -38,7 +38,7 @@ not_broken true fault others e = absurd cc
 not_broken false fault others e = (refl, e)
 
 -- where there is no cause, no rule is broken
-pub keeps : (bytes : List ℕ) → cause_of bytes ≡ None → Keeps bytes
+pub keeps : (bytes : List ℕ) → fault_of bytes ≡ None → Keeps bytes
 keeps bytes none =
     let a = not_broken (breaks bytes Empty) Empty _ none in
     let b = not_broken (breaks bytes Version) Version _ a.1 in
@@ -90,7 +90,7 @@ join_spelled xs kept = record { fits = tt; allowed = tt; spelled = ap (λ (ys : 
 leave_spelled : (xs : List ℕ) → Keeps (1 ∷ 3 ∷ xs) → Spells (1 ∷ 3 ∷ xs) Leave
 leave_spelled xs kept = record { fits = tt; allowed = tt; spelled = ap (λ (ys : List ℕ). 1 ∷ 3 ∷ ys) (nothing_after 3 xs kept.long) }
 
-move_form_spelled : (xs : List ℕ) → AreBytes (1 ∷ 2 ∷ xs) → Keeps (1 ∷ 2 ∷ xs) → Spells (1 ∷ 2 ∷ xs) (Step (move_in (1 ∷ 2 ∷ xs)))
+move_form_spelled : (xs : List ℕ) → AreBytes (1 ∷ 2 ∷ xs) → Keeps (1 ∷ 2 ∷ xs) → Spells (1 ∷ 2 ∷ xs) (Move (move_in (1 ∷ 2 ∷ xs)))
 move_form_spelled xs all kept =
     let short = or_parts (length (1 ∷ 2 ∷ xs) == 1) (nat_lt (length (1 ∷ 2 ∷ xs)) 12) kept.short in
     let least : 12 ≤ length (1 ∷ 2 ∷ xs) = ltb-false (length (1 ∷ 2 ∷ xs)) 12 short.1 in
@@ -119,7 +119,7 @@ some_of (suc n) e = omega arith
 
 -- the limits of a packet of version 2 that announces n commands
 steps_allowed : (n seq : ℕ) (bs : List CmdBlock) → length bs ≡ n → 1 ≤ n → n ≤ 3 → n - 1 ≤ seq → All IsAllowedBlock bs
-    → IsAllowedSteps (record { seq = seq; cmds = bs })
+    → IsAllowedMoves (record { seq = seq; cmds = bs })
 steps_allowed n seq bs e some few numbers blocks = record {
   some = omega (arith, e, some);
   few = omega (arith, e, few);
@@ -127,7 +127,7 @@ steps_allowed n seq bs e some few numbers blocks = record {
   blocks = blocks;
 }
 
-steps_form_spelled : (xs : List ℕ) → AreBytes (2 ∷ 2 ∷ xs) → Keeps (2 ∷ 2 ∷ xs) → Spells (2 ∷ 2 ∷ xs) (Steps (steps_in (2 ∷ 2 ∷ xs)))
+steps_form_spelled : (xs : List ℕ) → AreBytes (2 ∷ 2 ∷ xs) → Keeps (2 ∷ 2 ∷ xs) → Spells (2 ∷ 2 ∷ xs) (Moves (moves_in (2 ∷ 2 ∷ xs)))
 steps_form_spelled [] all kept = absurd (false≢true (sym kept.short))
 steps_form_spelled (a ∷ []) all kept = absurd (false≢true (sym kept.short))
 steps_form_spelled (a ∷ b ∷ []) all kept = absurd (false≢true (sym kept.short))
@@ -212,19 +212,19 @@ headed k (x ∷ xs) some e =
     rw (all, e) refl
 
 -- an answer that is a packet
-answered_ok : (cause : Option PacketFault) (q p : Packet) → answer cause q ≡ Ok p → (cause ≡ None) × (q ≡ p)
+answered_ok : (found : Option PacketFault) (q p : Packet) → answer found q ≡ Ok p → (found ≡ None) × (q ≡ p)
 answered_ok None q p e = (refl, cc)
 answered_ok (Some fault) q p e = absurd cc
 
 -- an answer that is a fault
-answered_err : (cause : Option PacketFault) (q : Packet) (fault : PacketFault) → answer cause q ≡ Err fault → cause ≡ Some fault
+answered_err : (found : Option PacketFault) (q : Packet) (fault : PacketFault) → answer found q ≡ Err fault → found ≡ Some fault
 answered_err None q fault e = absurd cc
 answered_err (Some other) q fault e = cc
 
 -- what bytes are read as, they spell
 pub read_spells : (bytes : List ℕ) → AreBytes bytes → (p : Packet) → reading bytes ≡ Ok p → Spells bytes p
 read_spells bytes all p e =
-    let parts = answered_ok (cause_of bytes) (packet_of (form_in bytes) bytes) p e in
+    let parts = answered_ok (fault_of bytes) (packet_of (form_in bytes) bytes) p e in
     subst (λ (q : Packet). Spells bytes q) parts.1 (kept_spelled bytes all (keeps bytes parts.0))
 
 -- the same of a result
@@ -237,12 +237,12 @@ pub spelled_read : (bytes : List ℕ) (p : Packet) → Spells bytes p → readin
 spelled_read bytes p s = ap reading s.spelled ∙ packet_again p s.fits s.allowed
 
 -- bytes are read as a fault exactly where it is their cause
-pub read_cause : (bytes : List ℕ) (fault : PacketFault) → reading bytes ≡ Err fault → cause_of bytes ≡ Some fault
-read_cause bytes fault e = answered_err (cause_of bytes) (packet_of (form_in bytes) bytes) fault e
+pub read_fault : (bytes : List ℕ) (fault : PacketFault) → reading bytes ≡ Err fault → fault_of bytes ≡ Some fault
+read_fault bytes fault e = answered_err (fault_of bytes) (packet_of (form_in bytes) bytes) fault e
 
-pub cause_read : (bytes : List ℕ) (fault : PacketFault) → cause_of bytes ≡ Some fault → reading bytes ≡ Err fault
-cause_read bytes fault e = ap (λ (cause : Option PacketFault). answer cause (packet_of (form_in bytes) bytes)) e
+pub fault_read : (bytes : List ℕ) (fault : PacketFault) → fault_of bytes ≡ Some fault → reading bytes ≡ Err fault
+fault_read bytes fault e = ap (λ (found : Option PacketFault). answer found (packet_of (form_in bytes) bytes)) e
 
 -- bytes that spell a packet have no cause
-pub spelled_no_cause : (bytes : List ℕ) (p : Packet) → Spells bytes p → cause_of bytes ≡ None
-spelled_no_cause bytes p s = (answered_ok (cause_of bytes) (packet_of (form_in bytes) bytes) p (spelled_read bytes p s)).0
+pub spelled_no_fault : (bytes : List ℕ) (p : Packet) → Spells bytes p → fault_of bytes ≡ None
+spelled_no_fault bytes p s = (answered_ok (fault_of bytes) (packet_of (form_in bytes) bytes) p (spelled_read bytes p s)).0

@@ -1,7 +1,7 @@
 -- The definitions of packets, and what holds of them.
 pub mod Spelling
 pub mod Commands
-pub mod Cause
+pub mod Faults
 pub mod Reading
 pub mod Laws
 pub mod Orders

@@ -3,11 +3,11 @@ use Rattle.std.specs.Prelude.{ℕ, List, [], ◌∷◌, Option, Some, None, Resu
 use Rattle.std.specs.Int.{w16, cast_signed, from_le_bytes}
 use Rattle.byte_lists.specs.Bytes.{byte}
 use Rattle.packet_read.specs.declared.move_packet.MovePacket.{MovePacket}
-use Rattle.packet_read.specs.declared.steps_packet.StepsPacket.{StepsPacket}
+use Rattle.packet_read.specs.declared.moves_packet.MovesPacket.{MovesPacket}
 use Rattle.packet_read.specs.declared.packet.Packet.{Packet}
-use Rattle.packet_read.specs.declared.packet.Packet.TheVariants.{Join, Step, Leave, Steps}
+use Rattle.packet_read.specs.declared.packet.Packet.TheVariants.{Join, Move, Leave, Moves}
 use Rattle.packet_read.specs.declared.packet_fault.PacketFault.{PacketFault}
-use Rattle.packet_read.specs.Cause.{Form, join, move, leave, steps, form_in, seq_in, blocks_in, cause_of}
+use Rattle.packet_read.specs.Faults.{Form, join, move, leave, moves, form_in, seq_in, blocks_in, fault_of}
 
 -- the move whose fields are in the bytes at their places
 abbrev pub move_in : List ℕ → MovePacket
@@ -20,21 +20,21 @@ move_in bytes = record {
 }
 
 -- the packet of version 2 whose fields are in the bytes at their places
-abbrev pub steps_in : List ℕ → StepsPacket
-steps_in bytes = record { seq = seq_in bytes; cmds = blocks_in bytes }
+abbrev pub moves_in : List ℕ → MovesPacket
+moves_in bytes = record { seq = seq_in bytes; cmds = blocks_in bytes }
 
 -- the packet of that form, with the fields that are in the bytes
 abbrev pub packet_of : Form → List ℕ → Packet
 packet_of join bytes = Join
-packet_of move bytes = Step (move_in bytes)
+packet_of move bytes = Move (move_in bytes)
 packet_of leave bytes = Leave
-packet_of steps bytes = Steps (steps_in bytes)
+packet_of moves bytes = Moves (moves_in bytes)
 
--- the cause where there is one, and else the packet
+-- the fault where there is one, and else the packet
 abbrev pub answer : Option PacketFault → Packet → Result Packet PacketFault
 answer None p = Ok p
 answer (Some fault) p = Err fault
 
 -- what the bytes are read as
 abbrev pub reading : List ℕ → Result Packet PacketFault
-reading bytes = answer (cause_of bytes) (packet_of (form_in bytes) bytes)
+reading bytes = answer (fault_of bytes) (packet_of (form_in bytes) bytes)

@@ -3,9 +3,9 @@ use Rattle.std.specs.Prelude.{◌≡◌, ℕ, ◌+◌, ◌^◌, ◌<◌, ◌≤�
 use Rattle.std.specs.Int.{w16, w32, cast_unsigned, to_le_bytes}
 use Rattle.packet_read.specs.declared.block_list.CmdBlock.{CmdBlock}
 use Rattle.packet_read.specs.declared.move_packet.MovePacket.{MovePacket}
-use Rattle.packet_read.specs.declared.steps_packet.StepsPacket.{StepsPacket}
+use Rattle.packet_read.specs.declared.moves_packet.MovesPacket.{MovesPacket}
 use Rattle.packet_read.specs.declared.packet.Packet.{Packet}
-use Rattle.packet_read.specs.declared.packet.Packet.TheVariants.{Join, Step, Leave, Steps}
+use Rattle.packet_read.specs.declared.packet.Packet.TheVariants.{Join, Move, Leave, Moves}
 
 -- ---- bytes
 
@@ -25,15 +25,15 @@ block_fields b =
     ++ b.buttons ∷ []
 
 -- the fields of a packet of version 2: the number of the newest command, how many commands there are, and the commands
-abbrev pub steps_fields : StepsPacket → List ℕ
-steps_fields s = to_le_bytes w32 s.seq ++ length s.cmds ∷ flat_map block_fields s.cmds
+abbrev pub moves_fields : MovesPacket → List ℕ
+moves_fields s = to_le_bytes w32 s.seq ++ length s.cmds ∷ flat_map block_fields s.cmds
 
 -- the spelling of a packet: the version, the kind, and its fields
 abbrev pub spelling : Packet → List ℕ
 spelling Join = 1 ∷ 1 ∷ []
-spelling (Step m) = 1 ∷ 2 ∷ move_fields m
+spelling (Move m) = 1 ∷ 2 ∷ move_fields m
 spelling Leave = 1 ∷ 3 ∷ []
-spelling (Steps s) = 2 ∷ 2 ∷ steps_fields s
+spelling (Moves s) = 2 ∷ 2 ∷ moves_fields s
 
 -- ---- limits
 
@@ -50,7 +50,7 @@ pub record IsAllowedBlock (b : CmdBlock) : Type 0 where
   pub buttons : b.buttons ≤ 3
 
 -- the limits of a packet of version 2: 1 to 3 commands, no more than there are numbers from 0 to the newest
-pub record IsAllowedSteps (s : StepsPacket) : Type 0 where
+pub record IsAllowedMoves (s : MovesPacket) : Type 0 where
   pub some : 1 ≤ length s.cmds
   pub few : length s.cmds ≤ 3
   pub numbers : length s.cmds ≤ s.seq + 1
@@ -59,9 +59,9 @@ pub record IsAllowedSteps (s : StepsPacket) : Type 0 where
 -- the packet is within the limits
 abbrev pub IsAllowed : Packet → Type 0
 IsAllowed Join = Unit {0}
-IsAllowed (Step m) = IsAllowedMove m
+IsAllowed (Move m) = IsAllowedMove m
 IsAllowed Leave = Unit {0}
-IsAllowed (Steps s) = IsAllowedSteps s
+IsAllowed (Moves s) = IsAllowedMoves s
 
 -- ---- types
 
@@ -81,16 +81,16 @@ pub record BlockFits (b : CmdBlock) : Type 0 where
   pub buttons : b.buttons < 2 ^ 8
 
 -- each field of a packet of version 2 fits its type
-pub record StepsFit (s : StepsPacket) : Type 0 where
+pub record MovesFit (s : MovesPacket) : Type 0 where
   pub seq : s.seq < 2 ^ 32
   pub blocks : All BlockFits s.cmds
 
 -- each field of the packet fits its type
 abbrev pub Fits : Packet → Type 0
 Fits Join = Unit {0}
-Fits (Step m) = MoveFits m
+Fits (Move m) = MoveFits m
 Fits Leave = Unit {0}
-Fits (Steps s) = StepsFit s
+Fits (Moves s) = MovesFit s
 
 -- the bytes spell the packet
 pub record Spells (bytes : List ℕ) (p : Packet) : Type 0 where

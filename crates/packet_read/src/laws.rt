@@ -1,9 +1,9 @@
-ghost use Rattle.packet_read.specs.Laws.{NoCauseWhereSpelled, OneSpelling, ReadWhereSpelled, LimitsAreKnown};
+ghost use Rattle.packet_read.specs.Laws.{NoFaultWhereSpelled, OneSpelling, ReadWhereSpelled, LimitsAreKnown};
 ghost use Rattle.packet_read.specs.Laws.{CommandsAreNumbered};
 
 /// Bytes break no rule of the format exactly where they spell some packet.
-pub fn no_cause_where_spelled()
-    ensures { NoCauseWhereSpelled }
+pub fn no_fault_where_spelled()
+    ensures { NoFaultWhereSpelled }
 {}
 
 /// A packet has one spelling, and no two packets have the same.

@@ -9,15 +9,15 @@ mod packet;
 mod packet_bytes;
 mod packet_fault;
 mod reading;
-mod reading_steps;
-mod steps_packet;
+mod reading_moves;
+mod moves_packet;
 mod wire;
 mod writing;
 
 pub use arrival::{Arrival, ArrivalBytes, MOST_ARRIVALS, MOST_BYTES};
 pub use block_list::{BlockList, CmdBlock, MOST_BLOCKS};
 pub use laws::{
-    commands_are_numbered, limits_are_known, no_cause_where_spelled, one_spelling,
+    commands_are_numbered, limits_are_known, no_fault_where_spelled, one_spelling,
     read_where_spelled,
 };
 pub use move_packet::MovePacket;
@@ -25,5 +25,5 @@ pub use packet::Packet;
 pub use packet_bytes::{MOST_PACKET_BYTES, PacketBytes};
 pub use packet_fault::PacketFault;
 pub use reading::read_packet;
-pub use steps_packet::StepsPacket;
+pub use moves_packet::MovesPacket;
 pub use writing::write_packet;

@@ -1,5 +1,5 @@
 use crate::move_packet::MovePacket;
-use crate::steps_packet::StepsPacket;
+use crate::moves_packet::MovesPacket;
 
 // Not `Copy`, so that a kind of packet may have a list.
 /// What a client says in one packet.
@@ -8,9 +8,9 @@ pub enum Packet {
     /// It wants to play.
     Join,
     /// It wants its player to move.
-    Step(MovePacket),
+    Move(MovePacket),
     /// It stops playing.
     Leave,
     /// It wants its player to move, and repeats commands that may have been lost.
-    Steps(StepsPacket),
+    Moves(MovesPacket),
 }

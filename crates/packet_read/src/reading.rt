@@ -2,13 +2,13 @@ ghost use Rattle.std.specs.Prelude.{◌≡◌, ◌∷◌, ◌↔◌, Some, IfOk}
 ghost use Rattle.packet_read.specs.declared.packet.Packet.{Packet};
 ghost use Rattle.packet_read.specs.declared.packet_fault.PacketFault.{PacketFault};
 ghost use Rattle.packet_read.specs.Spelling.{Spells};
-ghost use Rattle.packet_read.specs.Cause.{cause_of};
+ghost use Rattle.packet_read.specs.Faults.{fault_of};
 ghost use Rattle.packet_read.specs.Reading.{reading};
 
 use crate::move_packet::MovePacket;
 use crate::packet::Packet;
 use crate::packet_fault::PacketFault;
-use crate::reading_steps::read_kind_2;
+use crate::reading_moves::read_kind_2;
 use crate::wire::{JOIN, KNOWN_BUTTONS, LEAVE, MOST_MS, MOVE, MOVE_FIELDS, VERSION, VERSION_2};
 
 /// The packet that the bytes spell, or the first fault in the order of `PacketFault`.
@@ -16,8 +16,8 @@ pub fn read_packet(bytes: &[u8]) -> Result<Packet, PacketFault>
     // What is read is what the bytes spell, and what they spell is read.
     ensures found { IfOk result (λ p. Spells bytes.now p) }
     ensures only { (p : Packet) → Spells bytes.now p → result ≡ Ok p }
-    // Each fault comes exactly where it is the cause.
-    ensures cause { (fault : PacketFault) → (result ≡ Err fault) ↔ (cause_of bytes.now ≡ Some fault) }
+    // Each fault comes exactly where its rule is the first that is broken.
+    ensures fault { (fault : PacketFault) → (result ≡ Err fault) ↔ (fault_of bytes.now ≡ Some fault) }
     // The same as a function of the bytes.
     ensures answer { result ≡ reading bytes.now }
 {
@@ -60,7 +60,7 @@ fn read_move(fields: &[u8]) -> Result<Packet, PacketFault>
     if buttons > KNOWN_BUTTONS {
         return Err(PacketFault::Buttons);
     }
-    Ok(Packet::Step(MovePacket {
+    Ok(Packet::Move(MovePacket {
         seq: u32::from_le_bytes([s0, s1, s2, s3]),
         ms,
         wish_x: i16::from_le_bytes([x0, x1]),

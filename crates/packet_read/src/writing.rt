@@ -1,14 +1,14 @@
 ghost use Rattle.std.specs.Prelude.{◌≡◌, ◌+◌, ◌≤◌, ◌++◌, length};
-ghost use Rattle.packet_read.specs.declared.packet.Packet.TheVariants.{Step, Steps};
-ghost use Rattle.packet_read.specs.Spelling.{spelling, block_fields, MoveFits, StepsFit, BlockFits, IsAllowed};
-ghost use Rattle.packet_read.specs.Spelling.{IsAllowedSteps};
+ghost use Rattle.packet_read.specs.declared.packet.Packet.TheVariants.{Move, Moves};
+ghost use Rattle.packet_read.specs.Spelling.{spelling, block_fields, MoveFits, MovesFit, BlockFits, IsAllowed};
+ghost use Rattle.packet_read.specs.Spelling.{IsAllowedMoves};
 ghost use Rattle.packet_read.specs.Reading.{reading};
 
 use crate::block_list::CmdBlock;
 use crate::move_packet::MovePacket;
 use crate::packet::Packet;
 use crate::packet_bytes::{MOST_PACKET_BYTES, PacketBytes};
-use crate::steps_packet::StepsPacket;
+use crate::moves_packet::MovesPacket;
 use crate::wire::{JOIN, LEAVE, MOVE, VERSION, VERSION_2};
 
 // It alone has the limits of a packet, so tests can build one that is refused.
@@ -21,9 +21,9 @@ pub fn write_packet(p: &Packet) -> PacketBytes
     let mut bytes = PacketBytes::new();
     match p {
         Packet::Join => bytes.extend(&[VERSION, JOIN]),
-        Packet::Step(packet) => append_move(&mut bytes, *packet),
+        Packet::Move(packet) => append_move(&mut bytes, *packet),
         Packet::Leave => bytes.extend(&[VERSION, LEAVE]),
-        Packet::Steps(packet) => append_steps(&mut bytes, packet),
+        Packet::Moves(packet) => append_moves(&mut bytes, packet),
     }
     bytes
 }
@@ -31,7 +31,7 @@ pub fn write_packet(p: &Packet) -> PacketBytes
 // Puts the bytes of a move last.
 fn append_move(bytes: &mut PacketBytes, packet: MovePacket)
     requires { length bytes.old + 12 ≤ MOST_PACKET_BYTES }
-    ensures appended { bytes.new ≡ bytes.old ++ spelling (Step packet) }
+    ensures appended { bytes.new ≡ bytes.old ++ spelling (Move packet) }
     ensures fits { MoveFits packet }
 {
     bytes.extend(&[VERSION, MOVE]);
@@ -43,11 +43,11 @@ fn append_move(bytes: &mut PacketBytes, packet: MovePacket)
 }
 
 // Puts the bytes of a packet of version 2 last.
-fn append_steps(bytes: &mut PacketBytes, packet: &StepsPacket)
-    requires allowed { IsAllowedSteps packet.now }
+fn append_moves(bytes: &mut PacketBytes, packet: &MovesPacket)
+    requires allowed { IsAllowedMoves packet.now }
     requires room { length bytes.old + 25 ≤ MOST_PACKET_BYTES }
-    ensures appended { bytes.new ≡ bytes.old ++ spelling (Steps packet.now) }
-    ensures fits { StepsFit packet.now }
+    ensures appended { bytes.new ≡ bytes.old ++ spelling (Moves packet.now) }
+    ensures fits { MovesFit packet.now }
 {
     let cmds = packet.cmds.as_slice();
     bytes.extend(&[VERSION_2, MOVE]);

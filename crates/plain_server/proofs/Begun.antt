@@ -8,7 +8,7 @@ use Rattle.arena_map.specs.Validity.{IsValidWorld}
 use Rattle.world_tree.specs.Live.{record_at}
 use Rattle.world_physics.specs.Laws.{has_state}
 use Rattle.world_physics.specs.Ticks.{after_tick}
-use Rattle.world_physics.proofs.Kept.{ids_stay, only_places_and_states_change}
+use Rattle.world_physics.proofs.Kept.{ids_stay, only_origins_and_states_change}
 use Rattle.packet_read.specs.declared.arrival.Arrival.{Arrival}
 use Rattle.client_ports.specs.States.{State, IsServerState}
 use Rattle.client_ports.specs.Lists.{no_lists}
@@ -29,7 +29,7 @@ use Rattle.plain_server.proofs.Ticking.{server_ticked}
 state_ticked : (map : MapView) (frame : ℕ) (records : List (Option Rec)) (slot : ℕ) (old new : Rec) → IsMap map → IsValidWorld map records → slot < 64 → record_at records slot ≡ Some old
     → record_at (after_tick map frame records) slot ≡ Some new → new.state ≡ old.state
 state_ticked map frame records slot old new is_map valid below at after =
-    (only_places_and_states_change map frame records slot old new is_map valid at after).state (ap has_state (slot_is_player map slot old (valid.each slot old at) below))
+    (only_origins_and_states_change map frame records slot old new is_map valid at after).state (ap has_state (slot_is_player map slot old (valid.each slot old at) below))
 
 -- and nobody is added
 none_ticked : (map : MapView) (frame : ℕ) (records : List (Option Rec)) (slot : ℕ) → record_at records slot ≡ None → record_at (after_tick map frame records) slot ≡ None

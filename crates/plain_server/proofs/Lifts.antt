@@ -9,11 +9,11 @@ use Rattle.arena_geo.proofs.Containment.{all_three}
 use Rattle.entity_recs.specs.declared.kind.Kind.{Kind}
 use Rattle.entity_recs.specs.declared.kind.Kind.TheVariants as kinds
 use Rattle.entity_recs.specs.declared.rec.Rec.{Rec}
-use Rattle.entity_recs.specs.Bodies.{standing, body_of}
+use Rattle.entity_recs.specs.Bodies.{box_at_origin, body_of}
 use Rattle.entity_recs.specs.Kinds.{is_solid, is_item}
 use Rattle.arena_map.specs.declared.map_line.MapLine.{MapLine}
 use Rattle.arena_map.specs.declared.map_line.MapLine.TheVariants.{Arena, Depth, Shots, Block, Spawn, Item, Teleport, Goal, Lift}
-use Rattle.arena_map.specs.Places.{shaft, shaft_of}
+use Rattle.arena_map.specs.Positions.{shaft, shaft_of}
 use Rattle.arena_map.specs.Things.{record_of}
 use Rattle.arena_map.specs.Maps.{MapView, IsMap, IsThingInside}
 use Rattle.arena_map.proofs.Opening.{IsFound}
@@ -34,7 +34,7 @@ on_level lo hi = grind (arith, ints)
 on_way : (lo hi rise : ℤ) → pos 1 ≤ℤ rise → contains_on lo (hi +ℤ rise) lo hi ≡ true
 on_way lo hi rise least = grind (arith, ints)
 
-lift_in_shaft : (lo hi : Vec3) (rise : ℤ) → pos 1 ≤ℤ rise → contains (shaft lo hi rise) (standing lo zero_vector (minus hi lo)) ≡ true
+lift_in_shaft : (lo hi : Vec3) (rise : ℤ) → pos 1 ≤ℤ rise → contains (shaft lo hi rise) (box_at_origin lo zero_vector (minus hi lo)) ≡ true
 lift_in_shaft lo hi rise least =
     ap (contains (shaft lo hi rise)) (box-is lo hi) ∙ all_three (on_level lo.x hi.x) (on_level lo.y hi.y) (on_way lo.z hi.z rise least)
 

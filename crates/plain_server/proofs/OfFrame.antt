@@ -4,7 +4,7 @@ use Rattle.std.proofs.lemmas.List.Elements.{All-append, All-cons, All-nil}
 use Rattle.entity_recs.specs.Commands.{Command}
 use Rattle.packet_read.specs.declared.move_packet.MovePacket.{MovePacket}
 use Rattle.packet_read.specs.declared.packet.Packet.{Packet}
-use Rattle.packet_read.specs.declared.packet.Packet.TheVariants.{Join, Step, Leave, Steps}
+use Rattle.packet_read.specs.declared.packet.Packet.TheVariants.{Join, Move, Leave, Moves}
 use Rattle.packet_read.specs.declared.packet_fault.PacketFault.{PacketFault}
 use Rattle.packet_read.specs.Commands.{commands_of}
 use Rattle.packet_read.specs.Reading.{reading}
@@ -12,7 +12,7 @@ use Rattle.arena_map.specs.Maps.{MapView}
 use Rattle.packet_read.specs.declared.arrival.Arrival.{Arrival}
 use Rattle.client_ports.specs.declared.client.LiveSlot.{LiveSlot}
 use Rattle.client_ports.specs.declared.refusal.Refusal.{Refusal}
-use Rattle.client_ports.specs.declared.spawns.Place.{Place}
+use Rattle.client_ports.specs.declared.spawns.JoinPoint.{JoinPoint}
 use Rattle.client_ports.specs.NewMoves.{new_among}
 use Rattle.client_ports.specs.Answers.{join_answer, leave_answer, move_answer}
 use Rattle.client_ports.specs.States.{State}
@@ -22,7 +22,7 @@ use Rattle.client_ports.specs.Receiving.{Receiving, command_in, after_join, afte
 abbrev pub IsOfFrame : ℕ → Command → Type 0
 IsOfFrame frame c = c.frame ≡ frame
 
-join-of : (frame : ℕ) (to : Result Place Refusal) (r : Receiving) (place port : ℕ) → All (IsOfFrame frame) r.lists.moves → All (IsOfFrame frame) (after_join to r place port).lists.moves
+join-of : (frame : ℕ) (to : Result JoinPoint Refusal) (r : Receiving) (place port : ℕ) → All (IsOfFrame frame) r.lists.moves → All (IsOfFrame frame) (after_join to r place port).lists.moves
 join-of frame (Err why) r place port all = all
 join-of frame (Ok to) r place port all = all
 
@@ -45,8 +45,8 @@ packet-of : (read : Result Packet PacketFault) (map : MapView) (frame : ℕ) (r 
     → All (IsOfFrame frame) (after_packet map frame read r place port).lists.moves
 packet-of (Err why) map frame r place port all = all
 packet-of (Ok Join) map frame r place port all = join-of frame (join_answer map r.state port) r place port all
-packet-of (Ok (Step m)) map frame r place port all = move-of (move_answer r.state.clients port (commands_of (Step m))) frame (commands_of (Step m)) r place all
-packet-of (Ok (Steps s)) map frame r place port all = move-of (move_answer r.state.clients port (commands_of (Steps s))) frame (commands_of (Steps s)) r place all
+packet-of (Ok (Move m)) map frame r place port all = move-of (move_answer r.state.clients port (commands_of (Move m))) frame (commands_of (Move m)) r place all
+packet-of (Ok (Moves s)) map frame r place port all = move-of (move_answer r.state.clients port (commands_of (Moves s))) frame (commands_of (Moves s)) r place all
 packet-of (Ok Leave) map frame r place port all = leave-of frame (leave_answer r.state.clients port) r place all
 
 all-of : (map : MapView) (frame : ℕ) (r : Receiving) (place : ℕ) (arrivals : List Arrival) → All (IsOfFrame frame) r.lists.moves

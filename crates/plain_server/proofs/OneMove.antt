@@ -17,7 +17,7 @@ use Rattle.trigger_rules.specs.Touching.{solids_among, touched}
 use Rattle.trigger_rules.specs.Laws.{IsPlayerOn}
 use Rattle.shot_rules.specs.Laws.{IsShooterAfter}
 use Rattle.shot_rules.proofs.Hits.{stay_shooters}
-use Rattle.arena_outcomes.specs.Outcomes.{moved_among, outcome_in, risen, lying, shooting_in, outcome_on}
+use Rattle.arena_outcomes.specs.Outcomes.{moved_among, outcome_in, player_after_rising, player_while_down, shooting_in, outcome_on}
 use Rattle.arena_outcomes.proofs.OnMaps.{IsMove, IsPlain, Lies, Shoots, is_move, body_after_shooting}
 use Rattle.arena_outcomes.proofs.Lawful.Moves.{stay_on_maps, keep_who_moves, stay_free}
 use Rattle.plain_server.proofs.Scores.{without_score, touched-without_score}
@@ -107,7 +107,7 @@ valid_risen map id r state some kind valid = record {
   inside = valid.inside;
 }
 
-valid_lying : (map : MapView) (id : ℕ) (r : Rec) (seq : ℕ) → IsValidRecord map id r → IsValidRecord map id (lying r seq)
+valid_lying : (map : MapView) (id : ℕ) (r : Rec) (seq : ℕ) → IsValidRecord map id r → IsValidRecord map id (player_while_down r seq)
 valid_lying map id r seq valid = record {
   is_record = record {
     id = valid.is_record.id;
@@ -149,7 +149,7 @@ valid_after_shooting map id r near c is_map kind valid =
 
 -- the state of a player that isn't down when it moves
 abbrev state_risen : Rec → ℕ
-state_risen r = (risen r).state
+state_risen r = (player_after_rising r).state
 
 -- a player's record is as valid after a command
 pub valid_after_command : (map : MapView) (id : ℕ) (r : Rec) (near : List Rec) (c : Command) → IsMap map → r.kind ≡ Player → IsValidRecord map id r
@@ -161,7 +161,7 @@ valid_after_command map id r near c is_map kind valid = by (outcome_on map r nea
     by e (Lies some is) = subst (λ (x : Effect). IsValidRecord map id x.me) (sym is) (valid_lying map id r c.seq valid)
     by e (Shoots some is) =
         subst (λ (x : Effect). IsValidRecord map id x.me) (sym is)
-        (valid_after_shooting map id (risen r) near c is_map kind (valid_risen map id r (state_risen r) some kind valid))
+        (valid_after_shooting map id (player_after_rising r) near c is_map kind (valid_risen map id r (state_risen r) some kind valid))
 
 -- a command leaves a body that was free of all solids free of them
 pub free_after_command : (map : MapView) (id : ℕ) (r : Rec) (near : List Rec) (c : Command) → r.kind ≡ Player → IsValidRecord map id r
@@ -173,5 +173,5 @@ free_after_command map id r near c kind valid free = by (outcome_on map r near c
     by e (Lies some is) = ap (λ (x : Effect). is_blocked (body_of x.me) (solids_among map near)) is ∙ free
     by e (Shoots some is) =
         ap (λ (x : Effect). is_blocked (body_of x.me) (solids_among map near)) is
-        ∙ ap (λ (b : Bounds). is_blocked b (solids_among map near)) (body_after_shooting map (risen r) near c)
-        ∙ free_after_plain map id (risen r) near c kind (valid_risen map id r (state_risen r) some kind valid) free
+        ∙ ap (λ (b : Bounds). is_blocked b (solids_among map near)) (body_after_shooting map (player_after_rising r) near c)
+        ∙ free_after_plain map id (player_after_rising r) near c kind (valid_risen map id r (state_risen r) some kind valid) free

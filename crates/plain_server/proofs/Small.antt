@@ -4,10 +4,10 @@ use Rattle.std.specs.Prelude.{nat_lt}
 use Rattle.std.proofs.lemmas.List.Elements.{All-append, All-cons, All-filter, All-head, All-tail, All-nil}
 use Rattle.packet_read.specs.declared.move_packet.MovePacket.{MovePacket}
 use Rattle.packet_read.specs.declared.packet.Packet.{Packet}
-use Rattle.packet_read.specs.declared.packet.Packet.TheVariants.{Join, Step, Leave, Steps}
+use Rattle.packet_read.specs.declared.packet.Packet.TheVariants.{Join, Move, Leave, Moves}
 use Rattle.packet_read.specs.declared.packet_fault.PacketFault.{PacketFault}
 use Rattle.packet_read.specs.declared.block_list.CmdBlock.{CmdBlock}
-use Rattle.packet_read.specs.Commands.{commands_of, numbered, numbered_from, first_seq}
+use Rattle.packet_read.specs.Commands.{commands_of, move_with_number, moves_numbered_from, first_seq}
 use Rattle.packet_read.specs.Spelling.{Spells}
 use Rattle.packet_read.specs.Reading.{reading}
 use Rattle.packet_read.specs.Laws.{AreBytes}
@@ -16,7 +16,7 @@ use Rattle.arena_map.specs.Maps.{MapView}
 use Rattle.packet_read.specs.declared.arrival.Arrival.{Arrival}
 use Rattle.client_ports.specs.declared.client.LiveSlot.{LiveSlot}
 use Rattle.client_ports.specs.declared.refusal.Refusal.{Refusal}
-use Rattle.client_ports.specs.declared.spawns.Place.{Place}
+use Rattle.client_ports.specs.declared.spawns.JoinPoint.{JoinPoint}
 use Rattle.client_ports.specs.NewMoves.{new_among}
 use Rattle.client_ports.specs.Answers.{join_answer, leave_answer, move_answer}
 use Rattle.client_ports.specs.States.{State}
@@ -24,7 +24,7 @@ use Rattle.client_ports.specs.Receiving.{Receiving, command_in, after_join, afte
 use Rattle.plain_server.specs.Moving.{HasSmallNumber}
 use Rattle.plain_server.specs.Entries.{HasBytes}
 
-small_join : (to : Result Place Refusal) (r : Receiving) (place port : ℕ) → All HasSmallNumber r.lists.moves → All HasSmallNumber (after_join to r place port).lists.moves
+small_join : (to : Result JoinPoint Refusal) (r : Receiving) (place port : ℕ) → All HasSmallNumber r.lists.moves → All HasSmallNumber (after_join to r place port).lists.moves
 small_join (Err why) r place port small = small
 small_join (Ok to) r place port small = small
 
@@ -54,23 +54,23 @@ small_packet : (read : Result Packet PacketFault) (map : MapView) (frame : ℕ) 
     → All HasSmallNumber (after_packet map frame read r place port).lists.moves
 small_packet (Err why) map frame r place port fits small = small
 small_packet (Ok Join) map frame r place port fits small = small_join (join_answer map r.state port) r place port small
-small_packet (Ok (Step m)) map frame r place port fits small =
-    small_move (move_answer r.state.clients port (commands_of (Step m))) frame (commands_of (Step m)) r place (fits (Step m) refl) small
-small_packet (Ok (Steps s)) map frame r place port fits small =
-    small_move (move_answer r.state.clients port (commands_of (Steps s))) frame (commands_of (Steps s)) r place (fits (Steps s) refl) small
+small_packet (Ok (Move m)) map frame r place port fits small =
+    small_move (move_answer r.state.clients port (commands_of (Move m))) frame (commands_of (Move m)) r place (fits (Move m) refl) small
+small_packet (Ok (Moves s)) map frame r place port fits small =
+    small_move (move_answer r.state.clients port (commands_of (Moves s))) frame (commands_of (Moves s)) r place (fits (Moves s) refl) small
 small_packet (Ok Leave) map frame r place port fits small = small_leave (leave_answer r.state.clients port) r place small
 
 -- commands from a number on have small numbers where the last has
-small_numbered : (first : ℕ) (blocks : List CmdBlock) → first + length blocks ≤ 2 ^ 32 → All IsSmall (numbered_from first blocks)
+small_numbered : (first : ℕ) (blocks : List CmdBlock) → first + length blocks ≤ 2 ^ 32 → All IsSmall (moves_numbered_from first blocks)
 small_numbered first [] most = All-nil IsSmall
 small_numbered first (b ∷ more) most =
-    All-cons IsSmall (numbered first b) (numbered_from (first + 1) more) (omega (arith, most)) (small_numbered (first + 1) more (omega (arith, most)))
+    All-cons IsSmall (move_with_number first b) (moves_numbered_from (first + 1) more) (omega (arith, most)) (small_numbered (first + 1) more (omega (arith, most)))
 
 small_spelled : (bytes : List ℕ) (p : Packet) → Spells bytes p → All IsSmall (commands_of p)
 small_spelled bytes Join s = All-nil IsSmall
-small_spelled bytes (Step m) s = All-cons IsSmall m [] s.fits.seq (All-nil IsSmall)
+small_spelled bytes (Move m) s = All-cons IsSmall m [] s.fits.seq (All-nil IsSmall)
 small_spelled bytes Leave s = All-nil IsSmall
-small_spelled bytes (Steps p) s = small_numbered (first_seq p) p.cmds (omega (arith, s.fits.seq, s.allowed.some, s.allowed.numbers))
+small_spelled bytes (Moves p) s = small_numbered (first_seq p) p.cmds (omega (arith, s.fits.seq, s.allowed.some, s.allowed.numbers))
 
 -- the numbers of a packet that is read have 32 bits
 small_read : (bytes : List ℕ) → AreBytes bytes → (p : Packet) → reading bytes ≡ Ok p → All IsSmall (commands_of p)

@@ -20,7 +20,7 @@ use Rattle.trigger_rules.specs.Laws.{IsTaken, AreTaken}
 use Rattle.shot_rules.specs.Shots.{is_fired, after_shot, state_after_hit}
 use Rattle.shot_rules.specs.Laws.{IsShot, Misses, Hits}
 use Rattle.shot_rules.proofs.Hits.{are_in_the_way, unfired_is}
-use Rattle.arena_outcomes.specs.Outcomes.{moved_among, effect_of, outcome_in, risen, shooting_in}
+use Rattle.arena_outcomes.specs.Outcomes.{moved_among, effect_of, outcome_in, player_after_rising, shooting_in}
 use Rattle.arena_outcomes.proofs.Lawful.Moves.{take_what_is_there}
 use Rattle.arena_outcomes.proofs.OnMaps.{IsMove, IsPlain, Lies, Shoots, is_move}
 use Rattle.world_tree.specs.Live.{record_at}
@@ -158,7 +158,7 @@ module _ (map : MapView) (records : List (Option Rec)) (c : Command) (own : (id 
       by : (e : Effect) → IsMove map me others c e → IsSo e
       by e (IsPlain none is) = subst IsSo (sym is) plain_is
       by e (Lies some is) = subst IsSo (sym is) (HitsNobody (All-nil (IsTakenIn map records c.frame)) refl)
-      by e (Shoots some is) = subst IsSo (sym is) (shooting_is (risen me) some)
+      by e (Shoots some is) = subst IsSo (sym is) (shooting_is (player_after_rising me) some)
 
   takes : (states : List NewState) → All (IsTakenIn map records c.frame) states → All (IsChange map records c.frame) states
   takes states all = All-weaker (IsTakenIn map records c.frame) (IsChange map records c.frame) (λ s t. Takes t) states all

@@ -9,7 +9,7 @@ use Rattle.std.proofs.lemmas.Map.Views.{any-filter_same}
 use Rattle.arena_geo.specs.declared.vec3.Vec3.{Vec3}
 use Rattle.arena_geo.specs.Vectors.{plus, minus}
 use Rattle.arena_geo.specs.Bounds.{Bounds}
-use Rattle.arena_geo.specs.Boxes.{overlaps_on, overlaps, contains_on, contains, moved, is_blocked}
+use Rattle.arena_geo.specs.Boxes.{overlaps_on, overlaps, contains_on, contains, box_moved_by, is_blocked}
 use Rattle.arena_geo.proofs.Containment.{three_pass, all_three}
 use Rattle.box_trace.specs.Steps.{step_count, shift_at, body_at}
 use Rattle.box_trace.specs.Traces.{IsFree, apart_axis, axis_after, trace_of}
@@ -17,7 +17,7 @@ use Rattle.box_trace.proofs.Traces.{IsTrace-trace_of}
 use Rattle.slide_move.specs.declared.slid.Slid.{Slid}
 use Rattle.slide_move.specs.declared.leg.Leg.{Leg}
 use Rattle.slide_move.specs.Displacements.{displacement}
-use Rattle.slide_move.specs.Slides.{still, joined, last_leg, stopped_leg, leg_of, slide_along, slide_of}
+use Rattle.slide_move.specs.Slides.{still, slide_then, last_leg, stopped_leg, leg_of, slide_along, slide_of}
 use Rattle.slide_move.specs.Changes.{IsPartOfWay}
 use Rattle.slide_move.proofs.Ways.{moved-moved, IsPartOfWay-shift_at, IsPartOfWay-trans, IsPartOfWay-plus}
 use Rattle.slide_move.proofs.Legs.{IsLeg-leg_of}
@@ -70,7 +70,7 @@ Agree-sym region solids others agree = record {
 
 -- the body lies in the region wherever it comes on a part of its way
 pub record Stays (region body : Bounds) (way : Vec3) : Type 0 where
-  pub inside : (shift : Vec3) → IsPartOfWay way shift → contains region (moved body shift) ≡ true
+  pub inside : (shift : Vec3) → IsPartOfWay way shift → contains region (box_moved_by body shift) ≡ true
 
 -- ---- traces
 stays_at : (region body : Bounds) (way : Vec3) (k : ℕ) → Stays region body way → k ≤ step_count way → contains region (body_at body way k) ≡ true
@@ -131,7 +131,7 @@ then_same : (f g : Vec3 → Slid) (rest : Option Vec3) (none : Slid) {Q : Vec3 �
 then_same f g None none is each = refl
 then_same f g (Some r) none is each = each r is
 
-stays_on : (region body : Bounds) (way shift rest : Vec3) → Stays region body way → IsPartOfWay way shift → IsPartOfWay (minus way shift) rest → Stays region (moved body shift) rest
+stays_on : (region body : Bounds) (way shift rest : Vec3) → Stays region body way → IsPartOfWay way shift → IsPartOfWay (minus way shift) rest → Stays region (box_moved_by body shift) rest
 stays_on region body way shift rest stays goes leaves = record {
   inside = λ s part.
       let P : Bounds → Type 0 = λ b. contains region b ≡ true in
@@ -143,11 +143,11 @@ unfolding slide_along
 same_slide_along zero region body vel way solids others agree stays = refl
 same_slide_along (suc traces) region body vel way solids others agree stays =
     let leg = leg_of body vel way solids in
-    let there = moved body leg.slid.shift in
+    let there = box_moved_by body leg.slid.shift in
     let is = IsLeg-leg_of body vel way solids in
-    ap (joined leg.slid)
+    ap (slide_then leg.slid)
     (then_same (λ r. slide_along traces there leg.slid.vel r solids) (λ r. slide_along traces there leg.slid.vel r others) leg.rest (still leg.slid.vel) is.leaves (λ r leaves. same_slide_along traces region there leg.slid.vel r solids others agree (stays_on region body way leg.slid.shift r stays is.goes leaves)))
-    ∙ ap (λ (t : Leg). joined t.slid (option_map_or (λ r. slide_along traces (moved body t.slid.shift) t.slid.vel r others) t.rest (still t.slid.vel))) (same_leg region body vel way solids others agree stays)
+    ∙ ap (λ (t : Leg). slide_then t.slid (option_map_or (λ r. slide_along traces (box_moved_by body t.slid.shift) t.slid.vel r others) t.rest (still t.slid.vel))) (same_leg region body vel way solids others agree stays)
 
 pub same_slide : (region body : Bounds) (vel : Vec3) (ms : ℕ) (solids others : List Bounds) → Agree region solids others → Stays region body (displacement vel ms) → slide_of body vel ms solids ≡ slide_of body vel ms others
 unfolding slide_of

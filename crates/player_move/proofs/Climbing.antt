@@ -6,7 +6,7 @@ use Rattle.std.proofs.lemmas.Int.{ints}
 use Rattle.arena_geo.specs.declared.vec3.Vec3.{Vec3}
 use Rattle.arena_geo.specs.Vectors.{vector, plus}
 use Rattle.arena_geo.specs.Bounds.{Bounds}
-use Rattle.arena_geo.specs.Boxes.{moved, is_blocked}
+use Rattle.arena_geo.specs.Boxes.{box_moved_by, is_blocked}
 use Rattle.box_trace.specs.Steps.{step_count, part_at, shift_at, body_at}
 use Rattle.box_trace.specs.Traces.{trace_of}
 use Rattle.box_trace.proofs.Parts.{part_at-neg, unsigned_abs-part_at}
@@ -61,10 +61,10 @@ one_lower k =
     λ i. record { x = none i; y = none i; z = z i }
 
 blocked_below : (body : Bounds) (n k : ℕ) (solids : List Bounds) → k + 1 ≤ n
-    → ground_of (moved body (downwards k)) solids ≡ is_blocked (body_at body (downwards n) (k + 1)) solids
+    → ground_of (box_moved_by body (downwards k)) solids ≡ is_blocked (body_at body (downwards n) (k + 1)) solids
 unfolding ground_of
 blocked_below body n k solids within =
-    let same = moved-moved body (downwards k) (downwards 1) ∙ ap (moved body) (one_lower k ∙ sym (shift_at-downwards n (k + 1) within)) in
+    let same = moved-moved body (downwards k) (downwards 1) ∙ ap (box_moved_by body) (one_lower k ∙ sym (shift_at-downwards n (k + 1) within)) in
     ap (λ (b : Bounds). is_blocked b solids) same
 
 -- it goes on where nothing blocks it
@@ -77,7 +77,7 @@ goes_on body n k solids is more free =
     omega (arith, next)
 
 ends_at : (body : Bounds) (n k : ℕ) (solids : List Bounds) → k ≡ (trace_of body (downwards n) solids).steps
-    → (n ≤ k) ⊎ (ground_of (moved body (downwards k)) solids ≡ true)
+    → (n ≤ k) ⊎ (ground_of (box_moved_by body (downwards k)) solids ≡ true)
 ends_at body n k solids is =
     elim (cases_lt k n) [
       | inl more ↦ inr (blocked_below body n k solids (omega (arith, more)) ∙ true_from_ne_false _ (goes_on body n k solids is more))
@@ -104,15 +104,15 @@ at_height rise height i shift flat sum =
     λ j. record { x = sym x j; y = sym y j; z = z j }
 
 free_at : (body : Bounds) (solids : List Bounds) (rise height k : ℕ) (shift : Vec3) → shift.z ≡ pos 0
-    → ((i : ℕ) → 1 ≤ i → i ≤ k → is_blocked (moved (moved body (plus (upwards rise) shift)) (downwards i)) solids ≡ false)
-    → rise ≤ k + height → height < rise → is_blocked (moved body (vector shift.x shift.y (pos height))) solids ≡ false
+    → ((i : ℕ) → 1 ≤ i → i ≤ k → is_blocked (box_moved_by (box_moved_by body (plus (upwards rise) shift)) (downwards i)) solids ≡ false)
+    → rise ≤ k + height → height < rise → is_blocked (box_moved_by body (vector shift.x shift.y (pos height))) solids ≡ false
 free_at body solids rise height k shift flat free above below =
-    let same = ap (moved body) (at_height rise height (rise - height) shift flat (omega arith)) ∙ sym (moved-moved body (plus (upwards rise) shift) (downwards (rise - height))) in
+    let same = ap (box_moved_by body) (at_height rise height (rise - height) shift flat (omega arith)) ∙ sym (moved-moved body (plus (upwards rise) shift) (downwards (rise - height))) in
     ap (λ (b : Bounds). is_blocked b solids) same ∙ free (rise - height) (omega arith) (omega arith)
 
 are_stairs : (body : Bounds) (solids : List Bounds) (rise : ℕ) (along : Slid) (k : ℕ) → along.shift.z ≡ pos 0 → k ≤ rise
-    → ((i : ℕ) → 1 ≤ i → i ≤ k → is_blocked (moved (moved body (plus (upwards rise) along.shift)) (downwards i)) solids ≡ false)
-    → (rise ≤ k) ⊎ (ground_of (moved (moved body (plus (upwards rise) along.shift)) (downwards k)) solids ≡ true)
+    → ((i : ℕ) → 1 ≤ i → i ≤ k → is_blocked (box_moved_by (box_moved_by body (plus (upwards rise) along.shift)) (downwards i)) solids ≡ false)
+    → (rise ≤ k) ⊎ (ground_of (box_moved_by (box_moved_by body (plus (upwards rise) along.shift)) (downwards k)) solids ≡ true)
     → AreStairs body solids rise along (record { shift = plus (plus (upwards rise) along.shift) (downwards k); vel = level along.vel })
 are_stairs body solids rise along k flat within free ends = record {
   x = over_the_ground along.shift.x;
@@ -128,13 +128,13 @@ are_stairs body solids rise along k flat within free ends = record {
 }
 
 with_way_down : (body : Bounds) (solids : List Bounds) (rise : ℕ) (along : Slid) → along.shift.z ≡ pos 0
-    → AreStairs body solids rise along (record { shift = plus (plus (upwards rise) along.shift) (way_of (moved body (plus (upwards rise) along.shift)) (downwards rise) solids); vel = level along.vel })
+    → AreStairs body solids rise along (record { shift = plus (plus (upwards rise) along.shift) (way_of (box_moved_by body (plus (upwards rise) along.shift)) (downwards rise) solids); vel = level along.vel })
 with_way_down body solids rise along flat =
-    let there = moved body (plus (upwards rise) along.shift) in
+    let there = box_moved_by body (plus (upwards rise) along.shift) in
     let k = (trace_of there (downwards rise) solids).steps in
     let few : k ≤ rise = omega (arith, (IsTrace-trace_of there (downwards rise) solids).within, steps_down rise) in
     let free = λ (i : ℕ) (one : 1 ≤ i) (within : i ≤ k).
-    ap (λ (v : Vec3). is_blocked (moved there v) solids) (sym (shift_at-downwards rise i (omega (arith, few, within)))) ∙ (IsTrace-trace_of there (downwards rise) solids).free.free i one within
+    ap (λ (v : Vec3). is_blocked (box_moved_by there v) solids) (sym (shift_at-downwards rise i (omega (arith, few, within)))) ∙ (IsTrace-trace_of there (downwards rise) solids).free.free i one within
     in
     let P : Vec3 → Type 0 = λ v. AreStairs body solids rise along (record { shift = plus (plus (upwards rise) along.shift) v; vel = level along.vel }) in
     subst P (sym (shift_at-downwards rise k few)) (are_stairs body solids rise along k flat few free (ends_at there rise k solids refl))
@@ -144,6 +144,6 @@ unfolding stairs_of
 stairs_go_up_and_down body vel ms solids =
     let rise = (trace_of body (upwards 4608) solids).steps in
     let few : rise ≤ 4608 = omega (arith, (IsTrace-trace_of body (upwards 4608) solids).within, steps_up 4608) in
-    let along : Vec3 → Slid = λ up. slide_of (moved body up) (level vel) ms solids in
-    let P : Vec3 → Type 0 = λ up. AreStairs body solids rise (along (upwards rise)) (record { shift = plus (plus up (along up).shift) (way_of (moved body (plus up (along up).shift)) (downwards rise) solids); vel = level (along up).vel }) in
-    subst P (sym (shift_at-upwards 4608 rise few)) (with_way_down body solids rise (along (upwards rise)) (level_slide (moved body (upwards rise)) vel ms solids))
+    let along : Vec3 → Slid = λ up. slide_of (box_moved_by body up) (level vel) ms solids in
+    let P : Vec3 → Type 0 = λ up. AreStairs body solids rise (along (upwards rise)) (record { shift = plus (plus up (along up).shift) (way_of (box_moved_by body (plus up (along up).shift)) (downwards rise) solids); vel = level (along up).vel }) in
+    subst P (sym (shift_at-upwards 4608 rise few)) (with_way_down body solids rise (along (upwards rise)) (level_slide (box_moved_by body (upwards rise)) vel ms solids))

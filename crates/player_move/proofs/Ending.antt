@@ -3,7 +3,7 @@ use Rattle.std.proofs.Common.{◌≡◌, ℕ, zero, suc, Bool, false, inl, inr, 
 use Rattle.arena_geo.specs.declared.vec3.Vec3.{Vec3}
 use Rattle.arena_geo.specs.Vectors.{plus}
 use Rattle.arena_geo.specs.Bounds.{Bounds}
-use Rattle.arena_geo.specs.Boxes.{moved, is_blocked}
+use Rattle.arena_geo.specs.Boxes.{box_moved_by, is_blocked}
 use Rattle.box_trace.specs.Steps.{shift_at}
 use Rattle.box_trace.specs.Traces.{IsFree, trace_of}
 use Rattle.box_trace.proofs.Traces.{IsTrace-trace_of}
@@ -39,11 +39,11 @@ unfolding stairs_of
 stairs_end_free body vel ms solids =
     let steps = (trace_of body (upwards 4608) solids).steps in
     let up = shift_at (upwards 4608) steps in
-    let along = slide_of (moved body up) (level vel) ms solids in
+    let along = slide_of (box_moved_by body up) (level vel) ms solids in
     let there = plus up along.shift in
     EndsFree-plus body there _ solids
-    (EndsFree-plus body up along.shift solids (way_ends_free body (upwards 4608) solids) (slide_ends_free (moved body up) (level vel) ms solids))
-    (way_ends_free (moved body there) (downwards steps) solids)
+    (EndsFree-plus body up along.shift solids (way_ends_free body (upwards 4608) solids) (slide_ends_free (box_moved_by body up) (level vel) ms solids))
+    (way_ends_free (box_moved_by body there) (downwards steps) solids)
 
 walk_ends_free : (walks : Bool) (body : Bounds) (vel : Vec3) (ms : ℕ) (solids : List Bounds) → EndsFree body (walk_of walks body vel ms solids).shift solids
 unfolding walk_of
@@ -51,9 +51,9 @@ walk_ends_free walks body vel ms solids =
     let P : Walked → Type 0 = λ w. EndsFree body w.shift solids in
     chosen P _ _ _ (stairs_end_free body vel ms solids) (slide_ends_free body vel ms solids)
 
-free_there : (body : Bounds) (shift : Vec3) (solids : List Bounds) → EndsFree body shift solids → is_blocked body solids ≡ false → is_blocked (moved body shift) solids ≡ false
+free_there : (body : Bounds) (shift : Vec3) (solids : List Bounds) → EndsFree body shift solids → is_blocked body solids ≡ false → is_blocked (box_moved_by body shift) solids ≡ false
 free_there body shift solids (inl stays) free =
-    ap (λ (s : Vec3). is_blocked (moved body s) solids) stays ∙ ap (λ (b : Bounds). is_blocked b solids) (moved-zero_vector body) ∙ free
+    ap (λ (s : Vec3). is_blocked (box_moved_by body s) solids) stays ∙ ap (λ (b : Bounds). is_blocked b solids) (moved-zero_vector body) ∙ free
 free_there body shift solids (inr there) free = there
 
 pub move_ends_free : MoveEndsFree

@@ -7,7 +7,7 @@ use Rattle.std.proofs.lemmas.Int.{ints}
 use Rattle.arena_geo.specs.declared.vec3.Vec3.{Vec3}
 use Rattle.arena_geo.specs.Vectors.{plus, minus}
 use Rattle.arena_geo.specs.Bounds.{Bounds}
-use Rattle.arena_geo.specs.Boxes.{moved}
+use Rattle.arena_geo.specs.Boxes.{box_moved_by}
 use Rattle.slide_move.specs.declared.slid.Slid.{Slid}
 use Rattle.slide_move.specs.Slides.{slide_of}
 use Rattle.entity_recs.specs.declared.rec.Rec.{Rec}
@@ -25,7 +25,7 @@ use Rattle.player_move.proofs.WholeMoves.{standing-moved}
 -- the walk is its slide, or it walks where that meets a side, leads strictly farther, and ends level on the ground
 data Leads (walking : Bool) (body : Bounds) (slid : Slid) (solids : List Bounds) (walk : Walked) : Type 0 where
   slides : walk ≡ plain_of slid → Leads walking body slid solids walk
-  climbs : walking ≡ true → slid.side ≡ true → flat_square slid.shift < flat_square walk.shift → ground_of (moved body walk.shift) solids ≡ true → walk.vel.z ≡ pos 0 → Leads walking body slid solids walk
+  climbs : walking ≡ true → slid.side ≡ true → flat_square slid.shift < flat_square walk.shift → ground_of (box_moved_by body walk.shift) solids ≡ true → walk.vel.z ≡ pos 0 → Leads walking body slid solids walk
 
 choose : (P : Walked → Type 0) (b : Bool) (stairs plain : Walked) → (b ≡ true → P stairs) → P plain → P (if b then stairs else plain)
 choose P true stairs plain where_taken else_plain = where_taken refl
@@ -35,7 +35,7 @@ module _ (walking : Bool) (body : Bounds) (slid : Slid) (solids : List Bounds) (
   climbs_where_taken : stairs.vel.z ≡ pos 0 → (walking && slid.side && are_taken body stairs.shift slid.shift solids) ≡ true → Leads walking body slid solids stairs
   climbs_where_taken flat taken =
       let parts = and_parts (walking && slid.side) (are_taken body stairs.shift slid.shift solids) taken in
-      let ends = and_parts (goes_farther stairs.shift slid.shift) (ground_of (moved body stairs.shift) solids) parts.1 in
+      let ends = and_parts (goes_farther stairs.shift slid.shift) (ground_of (box_moved_by body stairs.shift) solids) parts.1 in
       let first = and_parts walking slid.side parts.0 in
       climbs first.0 first.1 (ltb-true (flat_square slid.shift) (flat_square stairs.shift) ends.0) ends.1 flat
 
@@ -60,7 +60,7 @@ minus-plus from shift =
 flat_square_by : (me : Rec) (walk : Walked) (ground : Bool) → flat_square_of me (moved_by me.origin walk ground) ≡ flat_square walk.shift
 flat_square_by me walk ground = ap flat_square (minus-plus me.origin walk.shift)
 
-body_by : (me : Rec) (walk : Walked) (ground : Bool) → body_after me (moved_by me.origin walk ground) ≡ moved (body_of me) walk.shift
+body_by : (me : Rec) (walk : Walked) (ground : Bool) → body_after me (moved_by me.origin walk ground) ≡ box_moved_by (body_of me) walk.shift
 body_by me walk ground = standing-moved me.origin walk.shift me.mins me.maxs
 
 no_less_far : (me : Rec) (cmd : Intent) (solids : List Bounds) (slid : Slid) (walk : Walked) → Leads (walks (ground_of (body_of me) solids) cmd) (body_of me) slid solids walk → GoesNoLessFar me cmd solids slid (moved_by me.origin walk (ground_of (body_of me) solids))
@@ -105,7 +105,7 @@ lead_where : (me : Rec) (cmd : Intent) (solids : List Bounds) (slid : Slid) (sta
     → (walks (ground_of (body_of me) solids) cmd && slid.side && are_taken (body_of me) stairs.shift slid.shift solids) ≡ true → LeadFarther me cmd solids slid stairs
 lead_where me cmd solids slid stairs taken =
     let parts = and_parts (walks (ground_of (body_of me) solids) cmd && slid.side) (are_taken (body_of me) stairs.shift slid.shift solids) taken in
-    let ends = and_parts (goes_farther stairs.shift slid.shift) (ground_of (moved (body_of me) stairs.shift) solids) parts.1 in
+    let ends = and_parts (goes_farther stairs.shift slid.shift) (ground_of (box_moved_by (body_of me) stairs.shift) solids) parts.1 in
     let first = and_parts (walks (ground_of (body_of me) solids) cmd) slid.side parts.0 in
     let walking = walks_from (ground_of (body_of me) solids) cmd first.0 in
     record { begins = walking.0; stays = walking.1; side = first.1; farther = ltb-true (flat_square slid.shift) (flat_square stairs.shift) ends.0; on_ground = ends.1 }

@@ -3,7 +3,7 @@ use Rattle.std.proofs.Common.{◌≡◌, ℕ, Bool, true, List, sym, subst, arit
 use Rattle.arena_geo.specs.declared.vec3.Vec3.{Vec3}
 use Rattle.arena_geo.specs.Vectors.{plus}
 use Rattle.arena_geo.specs.Bounds.{Bounds, IsOrdered}
-use Rattle.arena_geo.specs.Boxes.{contains, moved}
+use Rattle.arena_geo.specs.Boxes.{contains, box_moved_by}
 use Rattle.arena_geo.proofs.Ranges.{IsOrdered-moved}
 use Rattle.box_trace.specs.Steps.{shift_at}
 use Rattle.box_trace.specs.Traces.{trace_of}
@@ -24,7 +24,7 @@ use Rattle.player_move.proofs.WholeMoves.{standing-moved}
 module _ (arena : Bounds) (solids : List Bounds) (have : HaveWalls arena solids) where
   -- inside, moved so far
   IsInside : Bounds → Vec3 → Type 0
-  IsInside body shift = contains arena (moved body shift) ≡ true
+  IsInside body shift = contains arena (box_moved_by body shift) ≡ true
 
   way_stays_inside : (body : Bounds) (way : Vec3) → IsOrdered body → contains arena body ≡ true → IsInside body (way_of body way solids)
   unfolding IsInside
@@ -37,7 +37,7 @@ module _ (arena : Bounds) (solids : List Bounds) (have : HaveWalls arena solids)
       (slide_stays_inside arena body vel ms solids ordered have inside).at_end
 
   -- one shift that ends inside, and then another
-  then_inside : (body : Bounds) (first next : Vec3) → IsInside (moved body first) next → IsInside body (plus first next)
+  then_inside : (body : Bounds) (first next : Vec3) → IsInside (box_moved_by body first) next → IsInside body (plus first next)
   unfolding IsInside
   then_inside body first next inside =
       let P : Bounds → Type 0 = λ b. contains arena b ≡ true in
@@ -48,13 +48,13 @@ module _ (arena : Bounds) (solids : List Bounds) (have : HaveWalls arena solids)
   stairs_end_inside body vel ms ordered inside =
       let steps = (trace_of body (upwards 4608) solids).steps in
       let up = shift_at (upwards 4608) steps in
-      let above = moved body up in
+      let above = box_moved_by body up in
       let along = slide_of above (level vel) ms solids in
       let first = way_stays_inside body (upwards 4608) ordered inside in
       let second = slide_ends_inside above (level vel) ms (IsOrdered-moved body up ordered) first in
       let shift = plus up along.shift in
       let there = then_inside body up along.shift second in
-      then_inside body shift _ (way_stays_inside (moved body shift) (downwards steps) (IsOrdered-moved body shift ordered) there)
+      then_inside body shift _ (way_stays_inside (box_moved_by body shift) (downwards steps) (IsOrdered-moved body shift ordered) there)
 
   walk_ends_inside : (walks : Bool) (body : Bounds) (vel : Vec3) (ms : ℕ) → IsOrdered body → contains arena body ≡ true → IsInside body (walk_of walks body vel ms solids).shift
   unfolding walk_of
@@ -62,7 +62,7 @@ module _ (arena : Bounds) (solids : List Bounds) (have : HaveWalls arena solids)
       let P : Walked → Type 0 = λ w. IsInside body w.shift in
       chosen P _ _ _ (stairs_end_inside body vel ms ordered inside) (slide_ends_inside body vel ms ordered inside)
 
-  pub move_ends_inside : (walks : Bool) (body : Bounds) (vel : Vec3) (ms : ℕ) → IsOrdered body → contains arena body ≡ true → contains arena (moved body (walk_of walks body vel ms solids).shift) ≡ true
+  pub move_ends_inside : (walks : Bool) (body : Bounds) (vel : Vec3) (ms : ℕ) → IsOrdered body → contains arena body ≡ true → contains arena (box_moved_by body (walk_of walks body vel ms solids).shift) ≡ true
   unfolding IsInside
   move_ends_inside walks body vel ms ordered inside = walk_ends_inside walks body vel ms ordered inside
 

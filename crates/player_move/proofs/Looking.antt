@@ -4,7 +4,7 @@ use Rattle.std.proofs.lemmas.Int.{ints}
 use Rattle.arena_geo.specs.declared.vec3.Vec3.{Vec3}
 use Rattle.arena_geo.specs.Vectors.{plus, zero_vector}
 use Rattle.arena_geo.specs.Bounds.{Bounds}
-use Rattle.arena_geo.specs.Boxes.{contains_on, contains, grown, moved}
+use Rattle.arena_geo.specs.Boxes.{contains_on, contains, box_grown_by, box_moved_by}
 use Rattle.arena_geo.proofs.Containment.{all_three}
 use Rattle.arena_geo.proofs.Vectors.{plus-zero_vector}
 use Rattle.box_trace.specs.Steps.{shift_at}
@@ -34,26 +34,26 @@ contains_on-moved lo hi shift by near = grind (arith, ints)
 module _ (body : Bounds) (x y z : ℕ) where
   -- the body, larger by so much on each axis
   region : Bounds
-  region = grown body (record { x = pos x; y = pos y; z = pos z })
+  region = box_grown_by body (record { x = pos x; y = pos y; z = pos z })
 
   -- a body that is moved no farther lies in it
-  inside : (shift : Vec3) → unsigned_abs shift.x ≤ x → unsigned_abs shift.y ≤ y → unsigned_abs shift.z ≤ z → contains region (moved body shift) ≡ true
+  inside : (shift : Vec3) → unsigned_abs shift.x ≤ x → unsigned_abs shift.y ≤ y → unsigned_abs shift.z ≤ z → contains region (box_moved_by body shift) ≡ true
   unfolding region
   inside shift x_near y_near z_near =
       all_three (contains_on-moved body.lo.x body.hi.x shift.x x x_near) (contains_on-moved body.lo.y body.hi.y shift.y y y_near) (contains_on-moved body.lo.z body.hi.z shift.z z z_near)
 
-  inside_then : (first next : Vec3) → contains region (moved body (plus first next)) ≡ true → contains region (moved (moved body first) next) ≡ true
+  inside_then : (first next : Vec3) → contains region (box_moved_by body (plus first next)) ≡ true → contains region (box_moved_by (box_moved_by body first) next) ≡ true
   inside_then first next there =
       let P : Bounds → Type 0 = λ b. contains region b ≡ true in
       subst P (sym (moved-moved body first next)) there
 
   module _ (vel : Vec3) (ms : ℕ) (x_far : unsigned_abs (distance vel.x ms) ≤ x) (y_far : unsigned_abs (distance vel.y ms) ≤ y) (z_far : unsigned_abs (distance vel.z ms) ≤ z) (tall : 4609 ≤ z) where
-    inside_climb : (shift : Vec3) → IsClimb vel ms shift → contains region (moved body shift) ≡ true
+    inside_climb : (shift : Vec3) → IsClimb vel ms shift → contains region (box_moved_by body shift) ≡ true
     inside_climb shift climb =
         inside shift (omega (arith, climb.x)) (omega (arith, climb.y)) (omega (arith, climb.z))
 
     -- a climb and then the ground test
-    below_climb : (shift : Vec3) → IsClimb vel ms shift → contains region (moved (moved body shift) (downwards 1)) ≡ true
+    below_climb : (shift : Vec3) → IsClimb vel ms shift → contains region (box_moved_by (box_moved_by body shift) (downwards 1)) ≡ true
     below_climb shift climb =
         inside_then shift (downwards 1) (inside _ (omega (arith, ints, climb.x)) (omega (arith, ints, climb.y)) (omega (arith, ints, climb.z)))
 
@@ -74,10 +74,10 @@ module _ (body : Bounds) (x y z : ℕ) where
         let P : Vec3 → Type 0 = IsClimb vel ms in
         subst P (plus-zero_vector (plus up along)) (climb_by_parts vel up along zero_vector ms 0 (omega arith) p q (IsPartOfWay-zero_vector _))
 
-    stays_along : (up : Vec3) → IsPartOfWay (upwards 4608) up → Stays region (moved body up) (displacement (level vel) ms)
+    stays_along : (up : Vec3) → IsPartOfWay (upwards 4608) up → Stays region (box_moved_by body up) (displacement (level vel) ms)
     stays_along up p = record { inside = λ along q. inside_then up along (inside_climb _ (climb_along up along p q)) }
 
-    stays_down : (up along : Vec3) (steps : ℕ) → steps ≤ 4608 → IsPartOfWay (upwards 4608) up → IsPartOfWay (displacement (level vel) ms) along → Stays region (moved body (plus up along)) (downwards steps)
+    stays_down : (up along : Vec3) (steps : ℕ) → steps ≤ 4608 → IsPartOfWay (upwards 4608) up → IsPartOfWay (displacement (level vel) ms) along → Stays region (box_moved_by body (plus up along)) (downwards steps)
     stays_down up along steps few p q = record {
       inside = λ down r. inside_then (plus up along) down (inside_climb _ (climb_by_parts vel up along down ms steps few p q r));
     }
@@ -92,11 +92,11 @@ module _ (body : Bounds) (x y z : ℕ) where
           }
 
       along_at : ℕ → List Bounds → Slid
-      along_at steps list = slide_of (moved body (shift_at (upwards 4608) steps)) (level vel) ms list
+      along_at steps list = slide_of (box_moved_by body (shift_at (upwards 4608) steps)) (level vel) ms list
 
       down_at : ℕ → Slid → List Bounds → ℕ
       down_at steps along list =
-          (trace_of (moved body (plus (shift_at (upwards 4608) steps) along.shift)) (downwards steps) list).steps
+          (trace_of (box_moved_by body (plus (shift_at (upwards 4608) steps) along.shift)) (downwards steps) list).steps
 
       same_stairs : stairs_of body vel ms solids ≡ stairs_of body vel ms others
       unfolding stairs_of finish along_at down_at
@@ -106,14 +106,14 @@ module _ (body : Bounds) (x y z : ℕ) where
           let up = shift_at (upwards 4608) steps in
           let rises = IsPartOfWay-shift_at (upwards 4608) steps few in
           let along = along_at steps solids in
-          let goes = shift_is_part (moved body up) (level vel) ms solids in
-          ap (λ (down : ℕ). finish steps along down) (same_steps region (moved body (plus up along.shift)) (downwards steps) solids others agree (stays_down up along.shift steps few rises goes))
-          ∙ ap (λ (a : Slid). finish steps a (down_at steps a others)) (same_slide region (moved body up) (level vel) ms solids others agree (stays_along up rises))
+          let goes = shift_is_part (box_moved_by body up) (level vel) ms solids in
+          ap (λ (down : ℕ). finish steps along down) (same_steps region (box_moved_by body (plus up along.shift)) (downwards steps) solids others agree (stays_down up along.shift steps few rises goes))
+          ∙ ap (λ (a : Slid). finish steps a (down_at steps a others)) (same_slide region (box_moved_by body up) (level vel) ms solids others agree (stays_along up rises))
           ∙ ap (λ (n : ℕ). finish n (along_at n others) (down_at n (along_at n others) others)) (same_steps region body (upwards 4608) solids others agree stays_up)
 
-      same_ground : (b : Bounds) → contains region (moved b (downwards 1)) ≡ true → ground_of b solids ≡ ground_of b others
+      same_ground : (b : Bounds) → contains region (box_moved_by b (downwards 1)) ≡ true → ground_of b solids ≡ ground_of b others
       unfolding ground_of
-      same_ground b there = agree.blocked (moved b (downwards 1)) there
+      same_ground b there = agree.blocked (box_moved_by b (downwards 1)) there
 
       -- a walk of these parts
       walk_by : Bool → Slid → Walked → Bool → Walked
@@ -125,19 +125,19 @@ module _ (body : Bounds) (x y z : ℕ) where
       same_walk walks =
           let plain = slide_of body vel ms solids in
           let stairs = stairs_of body vel ms solids in
-          ap (walk_by walks plain stairs) (same_ground (moved body stairs.shift) (below_climb stairs.shift (stairs_climb body vel ms solids)))
-          ∙ ap (λ (w : Walked). walk_by walks plain w (ground_of (moved body w.shift) others)) same_stairs
-          ∙ ap (λ (p : Slid). walk_by walks p (stairs_of body vel ms others) (ground_of (moved body (stairs_of body vel ms others).shift) others)) (same_slide region body vel ms solids others agree stays_plain)
+          ap (walk_by walks plain stairs) (same_ground (box_moved_by body stairs.shift) (below_climb stairs.shift (stairs_climb body vel ms solids)))
+          ∙ ap (λ (w : Walked). walk_by walks plain w (ground_of (box_moved_by body w.shift) others)) same_stairs
+          ∙ ap (λ (p : Slid). walk_by walks p (stairs_of body vel ms others) (ground_of (box_moved_by body (stairs_of body vel ms others).shift) others)) (same_slide region body vel ms solids others agree stays_plain)
 
-  pub walks_alike : (vel : Vec3) (ms : ℕ) (solids others : List Bounds) → unsigned_abs (distance vel.x ms) ≤ x → unsigned_abs (distance vel.y ms) ≤ y → unsigned_abs (distance vel.z ms) ≤ z → 4609 ≤ z → Agree (grown body (record { x = pos x; y = pos y; z = pos z })) solids others → (walks : Bool) → walk_of walks body vel ms solids ≡ walk_of walks body vel ms others
+  pub walks_alike : (vel : Vec3) (ms : ℕ) (solids others : List Bounds) → unsigned_abs (distance vel.x ms) ≤ x → unsigned_abs (distance vel.y ms) ≤ y → unsigned_abs (distance vel.z ms) ≤ z → 4609 ≤ z → Agree (box_grown_by body (record { x = pos x; y = pos y; z = pos z })) solids others → (walks : Bool) → walk_of walks body vel ms solids ≡ walk_of walks body vel ms others
   unfolding region
   walks_alike vel ms solids others x_far y_far z_far tall agree walks =
       same_walk vel ms x_far y_far z_far tall solids others agree walks
 
-  pub stands_alike : (solids others : List Bounds) → 1 ≤ z → Agree (grown body (record { x = pos x; y = pos y; z = pos z })) solids others → ground_of body solids ≡ ground_of body others
+  pub stands_alike : (solids others : List Bounds) → 1 ≤ z → Agree (box_grown_by body (record { x = pos x; y = pos y; z = pos z })) solids others → ground_of body solids ≡ ground_of body others
   unfolding region ground_of
   stands_alike solids others tall agree =
-      agree.blocked (moved body (downwards 1)) (inside (downwards 1) (omega arith) (omega arith) (omega arith))
+      agree.blocked (box_moved_by body (downwards 1)) (inside (downwards 1) (omega arith) (omega arith) (omega arith))
 
 pub move_looks_within : MoveLooksWithin
 unfolding move_of

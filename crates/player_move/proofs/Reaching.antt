@@ -5,7 +5,7 @@ use Rattle.std.proofs.lemmas.Int.{ints}
 use Rattle.arena_geo.specs.declared.vec3.Vec3.{Vec3}
 use Rattle.arena_geo.specs.Vectors.{IsNear, plus}
 use Rattle.arena_geo.specs.Bounds.{Bounds, IsInRange}
-use Rattle.arena_geo.specs.Boxes.{moved}
+use Rattle.arena_geo.specs.Boxes.{box_moved_by}
 use Rattle.box_trace.specs.Steps.{step_count, shift_at}
 use Rattle.box_trace.specs.Traces.{trace_of}
 use Rattle.box_trace.proofs.Parts.{unsigned_abs-part_at}
@@ -63,7 +63,7 @@ near_down fall down steps near within down_is =
     subst P (sym down_is) (IsNear-part fall _ 4608 (IsPartOfWay-shift_at fall steps within) near)
 
 -- there is room for the slide above, for what comes of it, and for the way down
-pub room_above : (body above : Bounds) (up flat vel : Vec3) (ms : ℕ) → above ≡ moved body up → IsNear 4608 up → flat ≡ level vel → IsNear 512000 vel → ms ≤ 50 → IsWithin 2000000 body → IsInRange (moved above (displacement flat ms))
+pub room_above : (body above : Bounds) (up flat vel : Vec3) (ms : ℕ) → above ≡ box_moved_by body up → IsNear 4608 up → flat ≡ level vel → IsNear 512000 vel → ms ≤ 50 → IsWithin 2000000 body → IsInRange (box_moved_by above (displacement flat ms))
 room_above body above up flat vel ms above_is near_up flat_is near most room =
     let far : IsNear 25600 (displacement flat ms) = IsNear-displacement flat ms (rw flat_is (record { x = near.x; y = near.y; z = omega arith })) most in
     let within : IsWithin 2004608 above = rw above_is (IsWithin-moved 2000000 4608 2004608 body up (omega arith) room near_up) in
@@ -74,7 +74,7 @@ near_along rise up along shift steps rise_is within up_is shift_is far =
     let near : IsNear 4608 up = near_up rise up steps rise_is within up_is in
     rw shift_is (IsNear-plus 4608 30000 34608 up along (omega arith) near far)
 
-pub room_there : (body there : Bounds) (shift fall : Vec3) → there ≡ moved body shift → IsNear 34608 shift → IsNear 4608 fall → IsWithin 2000000 body → IsInRange (moved there fall)
+pub room_there : (body there : Bounds) (shift fall : Vec3) → there ≡ box_moved_by body shift → IsNear 34608 shift → IsNear 4608 fall → IsWithin 2000000 body → IsInRange (box_moved_by there fall)
 room_there body there shift fall there_is near low room =
     let within : IsWithin 2034608 there = rw there_is (IsWithin-moved 2000000 34608 2034608 body shift (omega arith) room near) in
     IsInRange-moved 2034608 4608 there fall (omega arith) within low
@@ -110,8 +110,8 @@ stairs_climb body vel ms solids =
     let steps = (trace_of body (upwards 4608) solids).steps in
     let within : steps ≤ 4608 = (IsTrace-trace_of body (upwards 4608) solids).within in
     let up = shift_at (upwards 4608) steps in
-    let along = slide_of (moved body up) (level vel) ms solids in
-    climb_by_parts vel up along.shift _ ms steps within (IsPartOfWay-shift_at (upwards 4608) steps within) (shift_is_part (moved body up) (level vel) ms solids) (way_is_part (moved body (plus up along.shift)) (downwards steps) solids)
+    let along = slide_of (box_moved_by body up) (level vel) ms solids in
+    climb_by_parts vel up along.shift _ ms steps within (IsPartOfWay-shift_at (upwards 4608) steps within) (shift_is_part (box_moved_by body up) (level vel) ms solids) (way_is_part (box_moved_by body (plus up along.shift)) (downwards steps) solids)
 
 -- ---- a walk
 -- on x and y no farther than the velocity goes in the open, and on z no farther than that and a step's height

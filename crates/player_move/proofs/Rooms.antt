@@ -5,7 +5,7 @@ use Rattle.std.specs.Int.{w32}
 use Rattle.arena_geo.specs.declared.vec3.Vec3.{Vec3}
 use Rattle.arena_geo.specs.Vectors.{IsNear, Fits, plus}
 use Rattle.arena_geo.specs.Bounds.{Bounds, IsInRange}
-use Rattle.arena_geo.specs.Boxes.{moved}
+use Rattle.arena_geo.specs.Boxes.{box_moved_by}
 use Rattle.player_move.specs.Ranges.{IsWithin}
 
 pub IsNear-plus : (a b far : ℕ) (v w : Vec3) → a + b ≤ far → IsNear a v → IsNear b w → IsNear far (plus v w)
@@ -23,13 +23,13 @@ Fits-near far v less is = record {
 }
 
 -- a body that is moved near has still room
-pub IsInRange-moved : (a b : ℕ) (body : Bounds) (by : Vec3) → a + b ≤ 2097152 → IsWithin a body → IsNear b by → IsInRange (moved body by)
+pub IsInRange-moved : (a b : ℕ) (body : Bounds) (by : Vec3) → a + b ≤ 2097152 → IsWithin a body → IsNear b by → IsInRange (box_moved_by body by)
 IsInRange-moved a b body by less within near = record {
   lo = IsNear-plus a b 2097152 body.lo by less within.lo near;
   hi = IsNear-plus a b 2097152 body.hi by less within.hi near;
 }
 
-pub IsWithin-moved : (a b far : ℕ) (body : Bounds) (by : Vec3) → a + b ≤ far → IsWithin a body → IsNear b by → IsWithin far (moved body by)
+pub IsWithin-moved : (a b far : ℕ) (body : Bounds) (by : Vec3) → a + b ≤ far → IsWithin a body → IsNear b by → IsWithin far (box_moved_by body by)
 IsWithin-moved a b far body by less within near = record {
   lo = IsNear-plus a b far body.lo by less within.lo near;
   hi = IsNear-plus a b far body.hi by less within.hi near;

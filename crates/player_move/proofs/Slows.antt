@@ -3,7 +3,7 @@ use Rattle.std.proofs.Common.{◌≡◌, ℕ, ◌≤◌, Bool, true, false, ◌�
 use Rattle.arena_geo.specs.declared.vec3.Vec3.{Vec3}
 use Rattle.arena_geo.specs.Vectors.{IsNear}
 use Rattle.arena_geo.specs.Bounds.{Bounds}
-use Rattle.speed_rules.specs.Rules.{clamped, unclamped}
+use Rattle.speed_rules.specs.Rules.{clamped_velocity, velocity_before_clamp}
 use Rattle.slide_move.specs.Changes.{KeepsOrStops}
 use Rattle.slide_move.proofs.Slides.{vel_kept}
 use Rattle.player_move.specs.declared.walk.Walked.{Walked}
@@ -13,7 +13,7 @@ use Rattle.player_move.specs.Moves.{move_of}
 use Rattle.player_move.specs.Laws.{MoveStaysSlow}
 use Rattle.player_move.proofs.Speeds.{cut_le}
 
-clamped_is_near : (v : Vec3) → IsNear 512000 (clamped v)
+clamped_is_near : (v : Vec3) → IsNear 512000 (clamped_velocity v)
 clamped_is_near v = record {
   x = omega (arith, cut_le v.x (unsigned_abs v.x) (omega arith));
   y = omega (arith, cut_le v.y (unsigned_abs v.y) (omega arith));
@@ -51,4 +51,4 @@ pub move_stays_slow : MoveStaysSlow
 unfolding move_of velocity_after
 move_stays_slow me cmd solids =
     let on_ground = ground_of _ solids in
-    walk_is_slow (walks on_ground cmd) _ (velocity_after on_ground me cmd) cmd.ms solids (clamped_is_near (unclamped on_ground (jumps cmd) me.vel cmd.wish_x cmd.wish_y cmd.ms))
+    walk_is_slow (walks on_ground cmd) _ (velocity_after on_ground me cmd) cmd.ms solids (clamped_is_near (velocity_before_clamp on_ground (jumps cmd) me.vel cmd.wish_x cmd.wish_y cmd.ms))

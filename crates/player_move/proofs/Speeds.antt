@@ -4,7 +4,7 @@ use Rattle.std.proofs.lemmas.Int.{ints, clamps}
 use Rattle.arena_geo.specs.declared.vec3.Vec3.{Vec3}
 use Rattle.entity_recs.specs.declared.rec.Rec.{Rec}
 use Rattle.player_move.specs.Intents.{Intent}
-use Rattle.speed_rules.specs.Rules.{jumped, friction_of, gravity_of, cut, unclamped}
+use Rattle.speed_rules.specs.Rules.{velocity_after_jump, friction_of, gravity_of, cut, velocity_before_clamp}
 use Rattle.speed_rules.specs.Changes.{Shortens, AddsAtMost}
 use Rattle.speed_rules.proofs.Slowing.{friction_shortens}
 use Rattle.speed_rules.proofs.Pushing.{acceleration_is_bounded}
@@ -38,14 +38,14 @@ faster_flying v launched new most ms few brief from adds = record {
 }
 
 -- no rule but the clamp changes a part of the velocity by more than the greatest wish
-pub unclamped_is_faster : (on_ground jump : Bool) (v : Vec3) (wish_x wish_y : ℤ) (ms : ℕ) → ms ≤ 50 → IsFaster v 81920 (unclamped on_ground jump v wish_x wish_y ms)
+pub unclamped_is_faster : (on_ground jump : Bool) (v : Vec3) (wish_x wish_y : ℤ) (ms : ℕ) → ms ≤ 50 → IsFaster v 81920 (velocity_before_clamp on_ground jump v wish_x wish_y ms)
 unclamped_is_faster true false v wish_x wish_y ms brief =
     let slower = friction_of v ms in
     faster_walking v slower _ _ (most_gained ms brief) (friction_shortens v ms) (acceleration_is_bounded slower wish_x wish_y ms true)
 unclamped_is_faster true true v wish_x wish_y ms brief =
-    faster_flying v (jumped v) _ _ ms (most_gained ms brief) brief
+    faster_flying v (velocity_after_jump v) _ _ ms (most_gained ms brief) brief
     (record { x = omega arith; y = omega arith; z = omega (arith, ints) })
-    (acceleration_is_bounded (jumped v) wish_x wish_y ms false)
+    (acceleration_is_bounded (velocity_after_jump v) wish_x wish_y ms false)
 unclamped_is_faster false jump v wish_x wish_y ms brief =
     faster_flying v v _ _ ms (most_gained ms brief) brief
     (record { x = omega arith; y = omega arith; z = omega arith })
@@ -63,7 +63,7 @@ pub record IsFast (old new : Vec3) : Type 0 where
 pub velocity_is_fast : (on_ground : Bool) (me : Rec) (cmd : Intent) → cmd.ms ≤ 50 → IsFast me.vel (velocity_after on_ground me cmd)
 unfolding velocity_after
 velocity_is_fast on_ground me cmd brief =
-    let entering = unclamped on_ground (jumps cmd) me.vel cmd.wish_x cmd.wish_y cmd.ms in
+    let entering = velocity_before_clamp on_ground (jumps cmd) me.vel cmd.wish_x cmd.wish_y cmd.ms in
     let faster = unclamped_is_faster on_ground (jumps cmd) me.vel cmd.wish_x cmd.wish_y cmd.ms brief in
     record {
       x = cut_le entering.x _ faster.x;

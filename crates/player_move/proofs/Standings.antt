@@ -4,7 +4,7 @@ use Rattle.std.proofs.lemmas.Int.{ints}
 use Rattle.std.proofs.lemmas.Bool.{both_ways}
 use Rattle.std.proofs.lemmas.List.Folds.{Any-from_list_any, list_any_at}
 use Rattle.arena_geo.specs.Bounds.{Bounds}
-use Rattle.arena_geo.specs.Boxes.{overlaps_on, overlaps, moved, is_blocked}
+use Rattle.arena_geo.specs.Boxes.{overlaps_on, overlaps, box_moved_by, is_blocked}
 use Rattle.arena_geo.specs.Laws.{HasInside}
 use Rattle.arena_geo.proofs.Containment.{three_pass, all_three}
 use Rattle.arena_geo.proofs.Overlaps.{overlaps_on-stays, third_fails}
@@ -22,7 +22,7 @@ met_lower : (lo hi l h : ℤ) → lo <ℤ hi → l <ℤ h → h ≡ lo
 met_lower lo hi l h long other_long top = grind (arith, ints)
 
 stands_on : (body solid : Bounds) → HasInside body → HasInside solid → overlaps body solid ≡ false
-    → overlaps (moved body (downwards 1)) solid ≡ true → StandsOn body solid
+    → overlaps (box_moved_by body (downwards 1)) solid ≡ true → StandsOn body solid
 stands_on body solid long other_long apart meets =
     let t = three_pass _ _ _ meets in
     let x = sym (overlaps_on-stays body.lo.x body.hi.x solid.lo.x solid.hi.x) ∙ t.x in
@@ -31,7 +31,7 @@ stands_on body solid long other_long apart meets =
     record { top = ends_there body.lo.z body.hi.z solid.lo.z solid.hi.z long.z other_long.z z t.z; x = x; y = y }
 
 meets_lower : (body solid : Bounds) → HasInside body → HasInside solid → StandsOn body solid
-    → overlaps (moved body (downwards 1)) solid ≡ true
+    → overlaps (box_moved_by body (downwards 1)) solid ≡ true
 meets_lower body solid long other_long stands =
     all_three
     (overlaps_on-stays body.lo.x body.hi.x solid.lo.x solid.hi.x ∙ stands.x)
@@ -49,7 +49,7 @@ each_at solids k solid each within there = subst HasInside there (each k solid w
 pub on_ground_is_standing : OnGroundIsStanding
 unfolding ground_of
 on_ground_is_standing body solids long each_long free =
-    let lower = moved body (downwards 1) in (
+    let lower = box_moved_by body (downwards 1) in (
       λ meets.
           let any = Any-from_list_any (overlaps lower) solids meets in
           let apart = not_met (overlaps body any.1) (is_blocked body solids)

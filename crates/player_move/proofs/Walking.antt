@@ -3,7 +3,7 @@ use Rattle.std.proofs.Common.{◌≡◌, ℕ, Bool, true, false, not, ◌&&◌, 
 use Rattle.arena_geo.specs.declared.vec3.Vec3.{Vec3}
 use Rattle.arena_geo.specs.Vectors.{plus}
 use Rattle.arena_geo.specs.Bounds.{Bounds}
-use Rattle.arena_geo.specs.Boxes.{moved}
+use Rattle.arena_geo.specs.Boxes.{box_moved_by}
 use Rattle.box_trace.specs.declared.hit.Hit.{Hit}
 use Rattle.box_trace.specs.Steps.{shift_at}
 use Rattle.box_trace.specs.Traces.{trace_of}
@@ -14,7 +14,7 @@ use Rattle.player_move.specs.Walks.{upwards, downwards, level, stairs_of, are_ta
 
 -- the stairs out of their steps
 pub stairs_by_steps : (body : Bounds) (vel : Vec3) (ms : ℕ) (solids : List Bounds) (rise : Vec3) (first : Hit) (up : Vec3) (above : Bounds) (flat : Vec3) (along : Slid) (shift : Vec3) (there : Bounds) (fall : Vec3) (last : Hit) (down end left : Vec3)
-    → rise ≡ upwards 4608 → first ≡ trace_of body rise solids → up ≡ shift_at rise first.steps → above ≡ moved body up → flat ≡ level vel → along ≡ slide_of above flat ms solids → shift ≡ plus up along.shift → there ≡ moved body shift → fall ≡ downwards first.steps → last ≡ trace_of there fall solids → down ≡ shift_at fall last.steps → end ≡ plus shift down → left ≡ level along.vel
+    → rise ≡ upwards 4608 → first ≡ trace_of body rise solids → up ≡ shift_at rise first.steps → above ≡ box_moved_by body up → flat ≡ level vel → along ≡ slide_of above flat ms solids → shift ≡ plus up along.shift → there ≡ box_moved_by body shift → fall ≡ downwards first.steps → last ≡ trace_of there fall solids → down ≡ shift_at fall last.steps → end ≡ plus shift down → left ≡ level along.vel
     → record { shift = end; vel = left } ≡ stairs_of body vel ms solids
 unfolding stairs_of
 stairs_by_steps body vel ms solids rise first up above flat along shift there fall last down end left rise_is first_is up_is above_is flat_is along_is shift_is there_is fall_is last_is down_is end_is left_is = cc

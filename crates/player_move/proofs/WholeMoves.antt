@@ -5,16 +5,16 @@ use Rattle.std.proofs.lemmas.Int.{ints}
 use Rattle.arena_geo.specs.declared.vec3.Vec3.{Vec3}
 use Rattle.arena_geo.specs.Vectors.{IsNear, plus}
 use Rattle.arena_geo.specs.Bounds.{Bounds, IsBox}
-use Rattle.arena_geo.specs.Boxes.{moved}
+use Rattle.arena_geo.specs.Boxes.{box_moved_by}
 use Rattle.box_trace.proofs.Parts.{unsigned_abs-part_at}
 use Rattle.entity_recs.specs.declared.rec.Rec.{Rec}
 use Rattle.player_move.specs.Intents.{Intent}
 use Rattle.entity_recs.specs.Records.{IsRecord}
-use Rattle.entity_recs.specs.Bodies.{standing, body_of}
+use Rattle.entity_recs.specs.Bodies.{box_at_origin, body_of}
 use Rattle.entity_recs.proofs.Standing.{IsRoomy, shape_is_roomy}
 use Rattle.slide_move.specs.Displacements.{distance}
 use Rattle.player_move.specs.declared.walk.Walked.{Walked}
-use Rattle.speed_rules.specs.Rules.{unclamped, clamped}
+use Rattle.speed_rules.specs.Rules.{velocity_before_clamp, clamped_velocity}
 use Rattle.player_move.specs.Ranges.{IsWithin}
 use Rattle.player_move.specs.Velocities.{jumps, walks, velocity_after}
 use Rattle.player_move.specs.Walks.{ground_of, walk_of}
@@ -44,11 +44,11 @@ plus-swap : (u v w : Vec3) → plus (plus u v) w ≡ plus (plus u w) v
 plus-swap u v w = λ i. record { x = swap u.x v.x w.x i; y = swap u.y v.y w.y i; z = swap u.z v.z w.z i }
 
 -- to move a body is to move its origin
-pub standing-moved : (origin shift mins maxs : Vec3) → standing (plus origin shift) mins maxs ≡ moved (standing origin mins maxs) shift
+pub standing-moved : (origin shift mins maxs : Vec3) → box_at_origin (plus origin shift) mins maxs ≡ box_moved_by (box_at_origin origin mins maxs) shift
 standing-moved origin shift mins maxs =
     λ i. record { lo = plus-swap origin shift mins i; hi = plus-swap origin shift maxs i }
 
-moved_is_box : (body : Bounds) (shift : Vec3) → IsRoomy body → IsNear 25600 shift → IsBox (moved body shift)
+moved_is_box : (body : Bounds) (shift : Vec3) → IsRoomy body → IsNear 25600 shift → IsBox (box_moved_by body shift)
 moved_is_box body shift roomy near = record {
   ordered = record {
     x = omega (arith, ints, roomy.ordered.x);
@@ -61,7 +61,7 @@ moved_is_box body shift roomy near = record {
   };
 }
 
-pub body_is_box : (me : Rec) (origin shift : Vec3) → IsRecord me → origin ≡ plus me.origin shift → IsNear 25600 shift → IsBox (standing origin me.mins me.maxs)
+pub body_is_box : (me : Rec) (origin shift : Vec3) → IsRecord me → origin ≡ plus me.origin shift → IsNear 25600 shift → IsBox (box_at_origin origin me.mins me.maxs)
 body_is_box me origin shift is origin_is near =
     rw (origin_is, standing-moved me.origin shift me.mins me.maxs) (moved_is_box (body_of me) shift (is_roomy me is) near)
 
@@ -70,9 +70,9 @@ origin_is_near me origin shift is origin_is near =
     rw origin_is (IsNear-plus 1048576 25600 1074176 me.origin shift (omega arith) is.origin near)
 
 -- ---- the move out of its steps
-pub velocity_by_steps : (on_ground : Bool) (me : Rec) (cmd : Intent) (entering vel : Vec3) → entering ≡ unclamped on_ground (jumps cmd) me.vel cmd.wish_x cmd.wish_y cmd.ms → vel ≡ clamped entering → vel ≡ velocity_after on_ground me cmd
+pub velocity_by_steps : (on_ground : Bool) (me : Rec) (cmd : Intent) (entering vel : Vec3) → entering ≡ velocity_before_clamp on_ground (jumps cmd) me.vel cmd.wish_x cmd.wish_y cmd.ms → vel ≡ clamped_velocity entering → vel ≡ velocity_after on_ground me cmd
 unfolding velocity_after
-velocity_by_steps on_ground me cmd entering vel entering_is vel_is = vel_is ∙ ap clamped entering_is
+velocity_by_steps on_ground me cmd entering vel entering_is vel_is = vel_is ∙ ap clamped_velocity entering_is
 
 pub move_by_steps : (me : Rec) (cmd : Intent) (solids : List Bounds) (body : Bounds) (on_ground : Bool) (vel : Vec3) (walking : Bool) (walk : Walked) (origin : Vec3)
     → body ≡ body_of me → on_ground ≡ ground_of body solids → vel ≡ velocity_after on_ground me cmd → walking ≡ walks on_ground cmd → walk ≡ walk_of walking body vel cmd.ms solids → origin ≡ plus me.origin walk.shift

@@ -10,7 +10,7 @@ use Rattle.slide_move.specs.FreeWays.{way_in}
 use Rattle.entity_recs.specs.declared.rec.Rec.{Rec}
 use Rattle.entity_recs.specs.Bodies.{body_of}
 use Rattle.speed_rules.specs.Rules.{velocity_of}
-use Rattle.speed_rules.specs.Together.{fallen, launched, IsSlowed}
+use Rattle.speed_rules.specs.Together.{z_after_fall, z_after_jump, IsSlowed}
 use Rattle.player_move.specs.declared.moved.Moved.{Moved}
 use Rattle.player_move.specs.Intents.{Intent}
 use Rattle.player_move.specs.Walks.{ground_of}
@@ -52,14 +52,14 @@ pub record WishesNothing (me : Rec) (cmd : Intent) : Type 0 where
 abbrev pub FreePlayersFall : Type 0
 FreePlayersFall =
     (me : Rec) (cmd : Intent) (solids : List Bounds) → WishesNothing me cmd → ground_of (body_of me) solids ≡ false
-    → GoesFreelyAt (vector me.vel.x me.vel.y (fallen me.vel.z cmd.ms)) me cmd solids
+    → GoesFreelyAt (vector me.vel.x me.vel.y (z_after_fall me.vel.z cmd.ms)) me cmd solids
 
 -- a player on the ground that jumps, and wishes nothing, goes on over the ground, and is launched
 abbrev pub FreePlayersJump : Type 0
 FreePlayersJump =
     (me : Rec) (cmd : Intent) (solids : List Bounds) → WishesNothing me cmd → ground_of (body_of me) solids ≡ true
     → cmd.buttons % 2 ≡ 1
-    → GoesFreelyAt (vector me.vel.x me.vel.y (launched me.vel.z cmd.ms)) me cmd solids
+    → GoesFreelyAt (vector me.vel.x me.vel.y (z_after_jump me.vel.z cmd.ms)) me cmd solids
 
 -- a player on the ground that neither jumps nor wishes anything goes on at what friction leaves
 abbrev pub FreePlayersSlowDown : Type 0

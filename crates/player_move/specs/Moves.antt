@@ -5,7 +5,7 @@ use Rattle.arena_geo.specs.Vectors.{plus}
 use Rattle.arena_geo.specs.Bounds.{Bounds}
 use Rattle.entity_recs.specs.declared.rec.Rec.{Rec}
 use Rattle.player_move.specs.Intents.{Intent}
-use Rattle.entity_recs.specs.Bodies.{standing, body_of}
+use Rattle.entity_recs.specs.Bodies.{box_at_origin, body_of}
 use Rattle.player_move.specs.declared.moved.Moved.{Moved}
 use Rattle.player_move.specs.declared.walk.Walked.{Walked}
 use Rattle.player_move.specs.Velocities.{walks, velocity_after}
@@ -18,7 +18,7 @@ walk_from on_ground me cmd solids =
 
 -- the body of a record after a move
 abbrev pub body_after : Rec → Moved → Bounds
-body_after me moved = standing moved.origin me.mins me.maxs
+body_after me moved = box_at_origin moved.origin me.mins me.maxs
 
 -- what a record does that walks so from its origin, and began on the ground or not
 abbrev pub moved_by : (origin : Vec3) (walk : Walked) (ground : Bool) → Moved

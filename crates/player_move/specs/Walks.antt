@@ -3,7 +3,7 @@ use Rattle.std.specs.Prelude.{ℕ, ◌+◌, ◌*◌, nat_lt, Bool, ◌&&◌, if�
 use Rattle.arena_geo.specs.declared.vec3.Vec3.{Vec3}
 use Rattle.arena_geo.specs.Vectors.{plus}
 use Rattle.arena_geo.specs.Bounds.{Bounds}
-use Rattle.arena_geo.specs.Boxes.{moved, is_blocked}
+use Rattle.arena_geo.specs.Boxes.{box_moved_by, is_blocked}
 use Rattle.box_trace.specs.Steps.{shift_at}
 use Rattle.box_trace.specs.Traces.{trace_of}
 use Rattle.slide_move.specs.Slides.{slide_of}
@@ -23,7 +23,7 @@ level vel = record { x = vel.x; y = vel.y; z = pos 0 }
 
 -- the body is on the ground: moved down by 1 it overlaps a solid
 unfoldable pub ground_of : Bounds → List Bounds → Bool
-ground_of body solids = is_blocked (moved body (downwards 1)) solids
+ground_of body solids = is_blocked (box_moved_by body (downwards 1)) solids
 
 -- how far a body goes this way before a solid stops it
 abbrev pub way_of : Bounds → Vec3 → List Bounds → Vec3
@@ -34,8 +34,8 @@ unfoldable pub stairs_of : Bounds → Vec3 → ℕ → List Bounds → Walked
 stairs_of body vel ms solids =
     let steps = (trace_of body (upwards 4608) solids).steps in
     let up = shift_at (upwards 4608) steps in
-    let along = slide_of (moved body up) (level vel) ms solids in
-    let down = way_of (moved body (plus up along.shift)) (downwards steps) solids in
+    let along = slide_of (box_moved_by body up) (level vel) ms solids in
+    let down = way_of (box_moved_by body (plus up along.shift)) (downwards steps) solids in
     record { shift = plus (plus up along.shift) down; vel = level along.vel }
 
 -- the square of the distance over the ground
@@ -48,7 +48,7 @@ goes_farther shift other = nat_lt (flat_square other) (flat_square shift)
 
 -- the stairs are taken in place of this slide: they lead strictly farther, to a place on the ground
 abbrev pub are_taken : Bounds → Vec3 → Vec3 → List Bounds → Bool
-are_taken body stairs plain solids = goes_farther stairs plain && ground_of (moved body stairs) solids
+are_taken body stairs plain solids = goes_farther stairs plain && ground_of (box_moved_by body stairs) solids
 
 -- the slide, or the stairs where a body that walks runs into a solid on x or y and they are taken
 unfoldable pub walk_of : Bool → Bounds → Vec3 → ℕ → List Bounds → Walked

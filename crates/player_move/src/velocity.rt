@@ -1,9 +1,9 @@
 ghost use Rattle.std.specs.Prelude.{◌≡◌};
 ghost use Rattle.arena_geo.specs.Vectors.{IsNear};
 ghost use Rattle.speed_rules.specs.Measures.{greatest_velocity};
-ghost use Rattle.speed_rules.specs.Rules.{jumped};
+ghost use Rattle.speed_rules.specs.Rules.{velocity_after_jump};
 ghost use Rattle.player_move.specs.Intents.{intent_of};
-ghost use Rattle.player_move.specs.Velocities.{IsTakeOff, jumps, walks, walking, flying};
+ghost use Rattle.player_move.specs.Velocities.{IsTakeOff, jumps, walks, velocity_when_walking, velocity_when_flying};
 ghost use Rattle.player_move.specs.Velocities.{unclamped_after, velocity_after};
 
 use arena_geo::Vec3;
@@ -28,9 +28,9 @@ pub fn walks(ground: bool, cmd: &Cmd) -> bool
 }
 
 /// The velocity of a player that jumps, as in Quake's `PlayerJump`.
-fn jumped(vel: Vec3) -> Vec3
+fn velocity_after_jump(vel: Vec3) -> Vec3
     requires { IsNear greatest_velocity vel }
-    ensures value { result ≡ jumped vel }
+    ensures value { result ≡ velocity_after_jump vel }
     ensures take_off { IsTakeOff result }
 {
     Vec3 {
@@ -40,18 +40,18 @@ fn jumped(vel: Vec3) -> Vec3
 }
 
 /// The velocity of a player that walks, before the clamp.
-fn walking(vel: Vec3, cmd: &Cmd) -> Vec3
+fn velocity_when_walking(vel: Vec3, cmd: &Cmd) -> Vec3
     requires { IsNear greatest_velocity vel }
-    ensures { result ≡ walking vel (intent_of cmd.now) }
+    ensures { result ≡ velocity_when_walking vel (intent_of cmd.now) }
 {
     let slower = friction(vel, cmd.ms);
     accelerate(slower, cmd.wish_x, cmd.wish_y, cmd.ms, true)
 }
 
 /// The velocity of a player in the air, before the clamp.
-fn flying(vel: Vec3, cmd: &Cmd) -> Vec3
+fn velocity_when_flying(vel: Vec3, cmd: &Cmd) -> Vec3
     requires { IsTakeOff vel }
-    ensures { result ≡ flying vel (intent_of cmd.now) }
+    ensures { result ≡ velocity_when_flying vel (intent_of cmd.now) }
 {
     let faster = accelerate(vel, cmd.wish_x, cmd.wish_y, cmd.ms, false);
     gravity(faster, cmd.ms)
@@ -59,14 +59,14 @@ fn flying(vel: Vec3, cmd: &Cmd) -> Vec3
 
 /// The velocity that enters the clamp: a jump, on the ground alone, after which the player is in the air; friction on
 /// the ground; acceleration; gravity in the air.
-fn unclamped(ground: bool, me: &Rec, cmd: &Cmd) -> Vec3
+fn velocity_before_clamp(ground: bool, me: &Rec, cmd: &Cmd) -> Vec3
     requires { IsNear greatest_velocity me.now.vel }
     ensures { result ≡ unclamped_after ground me.now (intent_of cmd.now) }
 {
     match (ground, jumps(cmd)) {
-        (true, false) => walking(me.vel, cmd),
-        (true, true) => flying(jumped(me.vel), cmd),
-        (false, _) => flying(me.vel, cmd),
+        (true, false) => velocity_when_walking(me.vel, cmd),
+        (true, true) => velocity_when_flying(velocity_after_jump(me.vel), cmd),
+        (false, _) => velocity_when_flying(me.vel, cmd),
     }
 }
 
@@ -77,5 +77,5 @@ pub fn velocity_after(ground: bool, me: &Rec, cmd: &Cmd) -> Vec3
     ensures value { result ≡ velocity_after ground me.now (intent_of cmd.now) }
     ensures near { IsNear greatest_velocity result }
 {
-    clamp(unclamped(ground, me, cmd))
+    clamp(velocity_before_clamp(ground, me, cmd))
 }

@@ -585,7 +585,7 @@ module _ (F : Fixed) (passes : ℕ) (table : TableId) (p new : PassView) (going 
         r = record { node = node; word = found; own = p.view.own; wanted = p.view.wanted };
         kept = ap (λ (v : View). v.refused) view;
         is_node = refl;
-        cause = record {
+        fault = record {
           held = holder;
           other = subst (λ (n : ℕ). IsOtherHolder F passes n node found number leaves) mine other;
           wanted = reached.wanted;

@@ -253,7 +253,7 @@ is_node_busy F passes own c r node first number leaves at below same by =
 pub was_not_run : (F : Fixed) (passes : ℕ) (table : TableId) (start : PassView) (c : Command) (old mid new : PassView) (o : Option Entry) (node number leaves : ℕ) (a : Again)
     → IsRunning F passes table start c old o → NoTakeWasRefused start old → WasRefused F passes table old mid node number leaves → IsPassOf F passes table new → HasGivenUp mid new
     → ((own : ℕ) (d : Command) (r : Refused) → r.node ≡ node → IsRefusedBy F passes own d r number leaves → IsCause F passes own d r a) → WasNotRun F passes table start new c a
-was_not_run F passes table start c old mid new o node number leaves a r before refused own gave cause =
+was_not_run F passes table start c old mid new o node number leaves a r before refused own gave fault =
     let was = still_open F passes table start c old mid o r refused.cmd refused.command in
     let same : refused.cmd ≡ c = same_one (command_pursued old) refused.cmd c refused.command was.command in
     let mine : mid.number ≡ new.number = sym gave.number in
@@ -269,7 +269,7 @@ was_not_run F passes table start c old mid new o node number leaves a r before r
       r = refused.r;
       kept = gave.refused ∙ refused.kept;
       listed = gave.listed ∙ refused.listed ∙ ap (λ (hs : List HeldWord). (record { node = refused.r.node; word = refused.r.word }) ∷ hs) before.listed;
-      cause = subst (λ (n : ℕ). IsCause F passes n c refused.r a) mine (subst (λ (d : Command). IsCause F passes mid.number d refused.r a) same (cause mid.number refused.cmd refused.r refused.is_node refused.cause));
+      fault = subst (λ (n : ℕ). IsCause F passes n c refused.r a) mine (subst (λ (d : Command). IsCause F passes mid.number d refused.r a) same (fault mid.number refused.cmd refused.r refused.is_node refused.fault));
     }
 
 -- ---- as the code has it

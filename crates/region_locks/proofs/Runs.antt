@@ -14,10 +14,10 @@ use Rattle.core_seats.specs.declared.refusals.Refusals.{Refusals}
 use Rattle.core_seats.specs.Refusals.{AreRefusals}
 use Rattle.ruled_words.specs.Sights.{Tally}
 use Rattle.ruled_words.specs.Passes.{PassView}
-use Rattle.ruled_words.specs.Hands.{keeping}
+use Rattle.ruled_words.specs.Hands.{pass_keeping}
 use Rattle.ruled_words.specs.Straight.{in_view, in_view_with, taking_leaves, at_point, nodes_read, HasMoreInFront, IsTriedOn}
 use Rattle.ruled_words.specs.Tries.{tried_until}
-use Rattle.ruled_words.specs.Writing.{as_tried, HasTried, written}
+use Rattle.ruled_words.specs.Writing.{as_tried, HasTried, view_after_stores}
 use Rattle.region_locks.specs.declared.gate_point.GatePoint.TheVariants.{Leaves, Computed, Committed}
 use Rattle.region_locks.specs.Pursuits.{HoldsLeavesAlone, is_checking, item_of}
 use Rattle.region_locks.specs.Moments.{IsAtPoint}
@@ -98,17 +98,17 @@ module _ (F : Fixed) (old at new : PassView) (first : at ≡ in_view_with old (n
   pub read_refusals : (r : Refusals) → AreRefusals r at.view → AreRefusals r new.view
   read_refusals r are = refusals_kept r at.view new.view (sym (ap (λ (p : PassView). p.view.refusals) both)) (sym (ap (λ (p : PassView). p.view.refused) both)) are
 
-  pub known_point : (e : Effect) → IsAtPoint (keeping new e) Computed
+  pub known_point : (e : Effect) → IsAtPoint (pass_keeping new e) Computed
   known_point e = record {
     come = ap (λ (p : PassView). is_resolving p.view.point && true) both;
-    alone = subst (λ (p : PassView). HoldsLeavesAlone (keeping p e)) (sym both) (record { busy = refl; leaves = refl; inner = λ G. refl; stores = refl });
+    alone = subst (λ (p : PassView). HoldsLeavesAlone (pass_keeping p e)) (sym both) (record { busy = refl; leaves = refl; inner = λ G. refl; stores = refl });
   }
 
 -- ---- the effect is written
 
-module _ (F : Fixed) (e : Effect) (place : ℕ) (nodes : List ℕ) (old at new : PassView) (first : HasTried old (written F place e nodes old.view) at)
+module _ (F : Fixed) (e : Effect) (place : ℕ) (nodes : List ℕ) (old at new : PassView) (first : HasTried old (view_after_stores F place e nodes old.view) at)
     (second : new ≡ in_view at (record at.view { point = Releasing [] })) where
-  done : new ≡ in_view_with old (record (as_tried (written F place e nodes old.view) at.view) { point = Releasing [] }) at.tally
+  done : new ≡ in_view_with old (record (as_tried (view_after_stores F place e nodes old.view) at.view) { point = Releasing [] }) at.tally
   done = second ∙ ap (λ (p : PassView). in_view p (record p.view { point = Releasing [] })) first.hand
 
   pub written_all : old.view.seen ≤ place → place + 1 < 2 ^ 64 → HasWritten e place old new

@@ -80,7 +80,7 @@ pub record WasNotRun (F : Fixed) (passes : ℕ) (table : TableId) (old new : Pas
     pub r : Refused
     pub kept : new.view.refused ≡ Some r
     pub listed : new.tally.refused ≡ record { node = r.node; word = r.word } ∷ old.tally.refused
-    pub cause : IsCause F passes new.number c r a
+    pub fault : IsCause F passes new.number c r a
 
 -- ---- while a move is run
 

@@ -95,7 +95,7 @@ pub record WasRefused (F : Fixed) (passes : ℕ) (table : TableId) (old new : Pa
     pub r : Refused
     pub kept : new.view.refused ≡ Some r
     pub is_node : r.node ≡ node
-    pub cause : IsRefusedBy F passes new.number cmd r number leaves
+    pub fault : IsRefusedBy F passes new.number cmd r number leaves
     pub counted : new.view.refusals ≡ min (old.view.refusals + 1) (2 ^ 64 - 1)
     pub given : commands_given new ≡ commands_given old
     pub listed : new.tally.refused ≡ record { node = r.node; word = r.word } ∷ old.tally.refused

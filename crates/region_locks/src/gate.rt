@@ -1,6 +1,6 @@
 ghost use Rattle.std.specs.Prelude.{◌≡◌, ◌∷◌, [], false, Some, None, is_some, option_copied};
 ghost use Rattle.entity_recs.specs.Commands.{command_of};
-ghost use Rattle.ruled_words.specs.Hands.{keeping};
+ghost use Rattle.ruled_words.specs.Hands.{pass_keeping};
 ghost use Rattle.ruled_words.specs.Passes.{IsOwn};
 ghost use Rattle.region_locks.specs.Pursuits.{command_pursued};
 ghost use Rattle.region_locks.specs.Points.{has_entry};
@@ -109,8 +109,8 @@ impl Moment {
         cmd: &Cmd,
         effect: &Effect,
     ) -> Moment
-        requires own { IsOwn A.meaning words.now (keeping hand.now effect.now) }
-        requires at { IsAtPoint (keeping hand.now effect.now) GatePoint.Computed }
+        requires own { IsOwn A.meaning words.now (pass_keeping hand.now effect.now) }
+        requires at { IsAtPoint (pass_keeping hand.now effect.now) GatePoint.Computed }
         requires in_hand { command_pursued hand.now ≡ command_of cmd.now ∷ [] }
         ensures { result ≡ record {
           worker = hand.now.number;

@@ -20,9 +20,9 @@ use Rattle.core_seats.specs.declared.refusals.Refusals.{Refusals}
 use Rattle.core_seats.specs.Refusals.{AreRefusals}
 use Rattle.ruled_words.specs.Sights.{Tally, tally_after}
 use Rattle.ruled_words.specs.Passes.{PassView, next_of_pass, pass_after, word_after, IsPassOf}
-use Rattle.ruled_words.specs.Hands.{IsPlain, keeping, still_keeping}
+use Rattle.ruled_words.specs.Hands.{IsPlain, pass_keeping, still_keeping}
 use Rattle.ruled_words.specs.Straight.{in_view, in_view_with, IsTriedOn}
-use Rattle.ruled_words.specs.Writing.{as_tried, HasTried, nodes_written, nodes_held, claims_left, claimed_point, claimed_effect, claimed, IsClaimed, written}
+use Rattle.ruled_words.specs.Writing.{as_tried, HasTried, nodes_written, nodes_held, claims_left, claimed_point, claimed_effect, view_with_claims, IsClaimed, view_after_stores}
 use Rattle.ruled_words.proofs.Owns.{no_effect}
 use Rattle.ruled_words.proofs.LoadedWords.{plain_is, plain_after, plain_next}
 use Rattle.ruled_words.proofs.PlainHands.{keeping_next, left_next, after_next_is}
@@ -147,18 +147,18 @@ dropped_own F passes table p o is none = record {
 }
 
 module _ (F : Fixed) (p : PassView) (e : Effect) (plain : IsPlain p) (at : p.view.point ≡ Resolving) where
-  resolved_is : next_of_pass F (keeping p e) ≡ Some (resolving e (nodes_written F p.view e))
+  resolved_is : next_of_pass F (pass_keeping p e) ≡ Some (resolving e (nodes_written F p.view e))
   resolved_is = keeping_next F p e Resolving plain at
 
   module _ (next : Next) (is : resolving e (nodes_written F p.view e) ≡ next) where
-    pub with_effect_is : next_of_pass F (keeping p e) ≡ Some next
+    pub with_effect_is : next_of_pass F (pass_keeping p e) ≡ Some next
     with_effect_is = resolved_is ∙ ap (λ (n : Next). Some n) is
 
     -- the hand after the step
-    pub with_effect_after : (new : PassView) (found : ℕ) → IsPlain new → still_keeping new e ≡ pass_after F (the_next (next_of_pass F (keeping p e))) found (keeping p e)
+    pub with_effect_after : (new : PassView) (found : ℕ) → IsPlain new → still_keeping new e ≡ pass_after F (the_next (next_of_pass F (pass_keeping p e))) found (pass_keeping p e)
         → new ≡ in_view_with p (view_found F p.view next found) (tally_after next found (word_left F p.number p.view next found) p.tally)
     with_effect_after new found plain_new after =
-        let made : still_keeping new e ≡ pass_after F next found (keeping p e) = after ∙ after_next_is F (keeping p e) next with_effect_is found in
+        let made : still_keeping new e ≡ pass_after F next found (pass_keeping p e) = after ∙ after_next_is F (pass_keeping p e) next with_effect_is found in
         λ i. record {
           table = (made i).table;
           setting = (made i).setting;
@@ -177,22 +177,22 @@ claims_first e [] node there = cc
 claims_first e (n ∷ nodes) node there = let same : n ≡ node = cc in ap (ClaimNode e) same
 
 module _ (F : Fixed) (p : PassView) (e : Effect) (node : ℕ) (plain : IsPlain p) (at : p.view.point ≡ Resolving) (there : first (nodes_written F p.view e) ≡ Some node) where
-  pub first_is : next_of_pass F (keeping p e) ≡ Some (ClaimNode e node)
+  pub first_is : next_of_pass F (pass_keeping p e) ≡ Some (ClaimNode e node)
   first_is = with_effect_is F p e plain at (ClaimNode e node) (claims_first e (nodes_written F p.view e) node there)
 
-  pub first_left : (found : ℕ) → word_after F (keeping p e) found ≡ (if found == 0 then suc (p.number + NODE_HOLDERS) else found)
+  pub first_left : (found : ℕ) → word_after F (pass_keeping p e) found ≡ (if found == 0 then suc (p.number + NODE_HOLDERS) else found)
   first_left found =
-      left_next F (keeping p e) (ClaimNode e node) first_is found
+      left_next F (pass_keeping p e) (ClaimNode e node) first_is found
       ∙ ap (λ (w : ℕ). if found == 0 then w else found)
       (held_to_write F p.number node p.view.wanted (two_inner F (home F (record_read p.view.cmd.slot p.view.again)) (home F e.me) node (first_there (nodes_written F p.view e) node there)))
 
-  pub first_tried : (new : PassView) (found : ℕ) (b : Bool) → b ≡ (found == 0) → IsPlain new → still_keeping new e ≡ pass_after F (the_next (next_of_pass F (keeping p e))) found (keeping p e)
+  pub first_tried : (new : PassView) (found : ℕ) (b : Bool) → b ≡ (found == 0) → IsPlain new → still_keeping new e ≡ pass_after F (the_next (next_of_pass F (pass_keeping p e))) found (pass_keeping p e)
       → HasTried p (if b then view_after_claim F e node p.view else p.view) new
   first_tried new found b same plain_new after =
       has_tried p node found b same (view_after_claim F e node p.view) _ (tried_on (ClaimNode e node) node found (word_left F p.number p.view (ClaimNode e node) found) p.tally refl) new
       (with_effect_after F p e plain at (ClaimNode e node) (claims_first e (nodes_written F p.view e) node there) new found plain_new after)
 
-  pub first_view : (new : PassView) (found : ℕ) → IsPlain new → still_keeping new e ≡ pass_after F (the_next (next_of_pass F (keeping p e))) found (keeping p e)
+  pub first_view : (new : PassView) (found : ℕ) → IsPlain new → still_keeping new e ≡ pass_after F (the_next (next_of_pass F (pass_keeping p e))) found (pass_keeping p e)
       → new.view ≡ (if found == 0 then view_after_claim F e node p.view else view_after_refusal node found p.view)
   first_view new found plain_new after =
       ap (λ (q : PassView). q.view) (with_effect_after F p e plain at (ClaimNode e node) (claims_first e (nodes_written F p.view e) node there) new found plain_new after)
@@ -200,10 +200,10 @@ module _ (F : Fixed) (p : PassView) (e : Effect) (node : ℕ) (plain : IsPlain p
 -- ---- the commit
 
 module _ (F : Fixed) (p : PassView) (e : Effect) (plain : IsPlain p) (at : p.view.point ≡ Resolving) (none : nodes_written F p.view e ≡ []) where
-  pub free_is : next_of_pass F (keeping p e) ≡ Some (CommitMove e [])
+  pub free_is : next_of_pass F (pass_keeping p e) ≡ Some (CommitMove e [])
   free_is = with_effect_is F p e plain at (CommitMove e []) (ap (resolving e) none)
 
-  pub free_after : (new : PassView) (found : ℕ) → IsPlain new → still_keeping new e ≡ pass_after F (the_next (next_of_pass F (keeping p e))) found (keeping p e)
+  pub free_after : (new : PassView) (found : ℕ) → IsPlain new → still_keeping new e ≡ pass_after F (the_next (next_of_pass F (pass_keeping p e))) found (pass_keeping p e)
       → new ≡ in_view p (view_after_commit F found e [] p.view)
   free_after new found plain_new after = with_effect_after F p e plain at (CommitMove e []) (ap (resolving e) none) new found plain_new after
 
@@ -278,7 +278,7 @@ module _ (F : Fixed) (passes : ℕ) (table : TableId) (start : PassView) (e : Ef
   made_of (node ∷ nodes) some = refl
 
   pub claims_made : (nodes : List ℕ) (now : PassView) (i : ℕ) → (length nodes == 0) ≡ false → length nodes ≤ i → nodes ≡ nodes_written F start.view e
-      → Tries F passes table start (claiming_view start.view e (take i nodes) (drop i nodes)) now → HasTried start (claimed F e start.view) now
+      → Tries F passes table start (claiming_view start.view e (take i nodes) (drop i nodes)) now → HasTried start (view_with_claims F e start.view) now
   claims_made nodes now i some over are is =
       subst (λ (ns : List ℕ). HasTried start (record start.view { effect = claimed_effect e ns; point = claimed_point ns }) now) are
       (subst (λ (v : View). HasTried start v now) (made_of nodes some)
@@ -286,7 +286,7 @@ module _ (F : Fixed) (passes : ℕ) (table : TableId) (start : PassView) (e : Ef
       (subst (λ (ns : List ℕ). HasTried start (claiming_view start.view e ns (drop i nodes)) now) (take_all i nodes over) is.tried)))
 
 -- where there is no write node the hand stays
-pub claims_none : (F : Fixed) (passes : ℕ) (table : TableId) (p : PassView) (e : Effect) → IsPassOf F passes table p → IsPlain p → p.view.point ≡ Resolving → nodes_written F p.view e ≡ [] → HasTried p (claimed F e p.view) p
+pub claims_none : (F : Fixed) (passes : ℕ) (table : TableId) (p : PassView) (e : Effect) → IsPassOf F passes table p → IsPlain p → p.view.point ≡ Resolving → nodes_written F p.view e ≡ [] → HasTried p (view_with_claims F e p.view) p
 claims_none F passes table p e own plain at none =
     let without : p.view.effect ≡ None = own.sound_sight.sound.unread.no_effect (ap (λ (q : Point). is_without_effect (stage_of q)) at) in
     subst (λ (v : View). HasTried p v p)
@@ -319,13 +319,13 @@ claimed_effect_is (node ∷ nodes) e o some is = is
 
 -- ---- the effect is written
 
-module _ (F : Fixed) (passes : ℕ) (table : TableId) (start : PassView) (e : Effect) (nodes : List ℕ) (one : PassView) (own_one : IsPassOf F passes table one) (tried : HasTried start (claimed F e start.view) one) where
+module _ (F : Fixed) (passes : ℕ) (table : TableId) (start : PassView) (e : Effect) (nodes : List ℕ) (one : PassView) (own_one : IsPassOf F passes table one) (tried : HasTried start (view_with_claims F e start.view) one) where
   -- the hand that holds its write nodes is where it commits
   pub is_claimed : IsClaimed F e one.view
-  is_claimed = holds_still F passes table start (claimed F e start.view) one (record { own = own_one; tried = tried }) (IsClaimed F e) (record { at = refl; effect = refl })
+  is_claimed = holds_still F passes table start (view_with_claims F e start.view) one (record { own = own_one; tried = tried }) (IsClaimed F e) (record { at = refl; effect = refl })
 
-  pub claimed_still : (P : View → Type 0) → P (as_tried (claimed F e start.view) one.view) → P one.view
-  claimed_still P there = holds_still F passes table start (claimed F e start.view) one (record { own = own_one; tried = tried }) P there
+  pub claimed_still : (P : View → Type 0) → P (as_tried (view_with_claims F e start.view) one.view) → P one.view
+  claimed_still P there = holds_still F passes table start (view_with_claims F e start.view) one (record { own = own_one; tried = tried }) P there
 
   module _ (place : ℕ) (two : PassView) (committed : two ≡ in_view one (view_after_commit F place e nodes one.view)) where
     -- its stores come next
@@ -343,15 +343,15 @@ module _ (F : Fixed) (passes : ℕ) (table : TableId) (start : PassView) (e : Ef
     slot_still slot is = claimed_still (λ (v : View). slot ≡ v.cmd.slot) is ∙ sym (ap (λ (q : PassView). q.view.cmd.slot) committed)
 
     module _ (three : PassView) (stored : three ≡ in_view two (record two.view { point = Releasing (nodes_held two.view.point) })) where
-      all_written : three ≡ in_view one (written F place e nodes one.view)
+      all_written : three ≡ in_view one (view_after_stores F place e nodes one.view)
       all_written = stored ∙ ap (λ (q : PassView). in_view q (record q.view { point = Releasing (nodes_held q.view.point) })) committed
 
       -- the effect is written
-      pub has_written : HasTried start (written F place e nodes start.view) three
+      pub has_written : HasTried start (view_after_stores F place e nodes start.view) three
       has_written =
-          has_tried_on start one three (claimed F e start.view) (written F place e nodes) (λ v t u. refl) tried
+          has_tried_on start one three (view_with_claims F e start.view) (view_after_stores F place e nodes) (λ v t u. refl) tried
           (record {
-            hand = subst (λ (q : PassView). q ≡ in_view_with one (as_tried (written F place e nodes one.view) q.view) q.tally) (sym all_written) refl;
+            hand = subst (λ (q : PassView). q ≡ in_view_with one (as_tried (view_after_stores F place e nodes one.view) q.view) q.tally) (sym all_written) refl;
             tally = subst (IsTriedOn one.tally) (sym (ap (λ (q : PassView). q.tally) all_written)) (not_tried one.tally);
           })
 

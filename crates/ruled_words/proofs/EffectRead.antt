@@ -3,7 +3,7 @@ use Rattle.std.proofs.Common.{◌≡◌, ℕ, ◌<◌, ◌++◌, true, List, [],
 use Rattle.std.proofs.lemmas.Bool.{false≢true}
 use Rattle.entity_recs.specs.declared.effect.Effect.{Effect}
 use Rattle.core_seats.specs.Ready.{is_resolving}
-use Rattle.ruled_words.specs.Hands.{keeping}
+use Rattle.ruled_words.specs.Hands.{pass_keeping}
 use Rattle.std.specs.List.Sorted.{IsStrictlyIncreasing}
 use Rattle.arena_geo.specs.Bounds.{Bounds}
 use Rattle.entity_recs.specs.declared.rec.Rec.{Rec}
@@ -71,7 +71,7 @@ same_effect d e same = cc
 
 -- the pass keeps the effect of what was loaded
 pub keeping_own : (F : Fixed) (passes : ℕ) (table : TableId) (p : PassView) (e : Effect) → IsPassOf F passes table p → p.view.point ≡ Resolving → e ≡ effect_loaded F p.view
-    → IsPassOf F passes table (keeping p e)
+    → IsPassOf F passes table (pass_keeping p e)
 keeping_own F passes table p e own at is = record {
   at_table = own.at_table;
   at_setting = own.at_setting;

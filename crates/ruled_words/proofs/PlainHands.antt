@@ -6,12 +6,12 @@ use Rattle.core_steps.specs.Machine.{Next, index_of}
 use Rattle.core_seats.specs.Going.{word_left}
 use Rattle.core_seats.specs.Nexts.{next_point, the_next}
 use Rattle.ruled_words.specs.Passes.{PassView, next_of_pass, pass_after, word_after}
-use Rattle.ruled_words.specs.Hands.{IsPlain, keeping}
+use Rattle.ruled_words.specs.Hands.{IsPlain, pass_keeping}
 use Rattle.ruled_words.proofs.LoadedWords.{plain_is}
 
 -- what comes next of a plain hand with an effect that it keeps
-pub keeping_next : (F : Fixed) (p : PassView) (e : Effect) (point : Point) → IsPlain p → p.view.point ≡ point → next_of_pass F (keeping p e) ≡ next_point F p.view None (Some e) point
-keeping_next F p e point plain at = ap (λ (q : PassView). next_of_pass F (keeping q e)) (plain_is p plain) ∙ ap (λ (q : Point). next_point F p.view None (Some e) q) at
+pub keeping_next : (F : Fixed) (p : PassView) (e : Effect) (point : Point) → IsPlain p → p.view.point ≡ point → next_of_pass F (pass_keeping p e) ≡ next_point F p.view None (Some e) point
+keeping_next F p e point plain at = ap (λ (q : PassView). next_of_pass F (pass_keeping q e)) (plain_is p plain) ∙ ap (λ (q : Point). next_point F p.view None (Some e) q) at
 
 -- ---- what a step asks, of what comes next
 

@@ -15,7 +15,7 @@ use Rattle.entity_recs.specs.Bodies.{abs_of}
 use Rattle.entity_recs.specs.Records.{with_state}
 use Rattle.core_steps.specs.Views.{Fixed, Point, Sensing, Resolving, things_in}
 use Rattle.core_seats.specs.ThingBits.{AreApart}
-use Rattle.core_seats.specs.NearKept.{AreThings, thing_with, touching, things_loaded}
+use Rattle.core_seats.specs.NearKept.{AreThings, thing_with, records_touching, things_loaded}
 use Rattle.world_tree.specs.Nears.{NearView}
 use Rattle.core_seats.proofs.ThingsLoaded.{things_of_region, loaded_of_region, things_rise, touching_same, loaded_more, left_first, left_same}
 use Rattle.core_steps.specs.Steps.{sensing, view_after_state}
@@ -105,8 +105,8 @@ put_last false near new r room records few = absurd (false≢true (room.1 few))
 
 -- the states of those of the first k things that a region touches are loaded, and they stand with them in the near list
 pub record AreSensed (region : List Bounds) (things : List Rec) (start p : PassView) (before near : List Rec) (k : ℕ) : Type 0 where
-  pub hand : p ≡ sensed_to start p.view.states (map (λ (r : Rec). r.id) (touching region (drop k things)))
-  pub near_is : near ≡ before ++ filter_map (thing_with p.view.states) (touching region (take k things))
+  pub hand : p ≡ sensed_to start p.view.states (map (λ (r : Rec). r.id) (records_touching region (drop k things)))
+  pub near_is : near ≡ before ++ filter_map (thing_with p.view.states) (records_touching region (take k things))
   pub room : length near ≤ 64 + k
 
 module _ (F : Fixed) (things : List Rec) (region : List Bounds) (are : AreThings F things) (rising : IsStrictlyIncreasing F.start.ids) (start : PassView) (before : List Rec) where
@@ -124,7 +124,7 @@ module _ (F : Fixed) (things : List Rec) (region : List Bounds) (are : AreThings
     thing = get_or things k d
 
     abbrev rest : List ℕ
-    rest = map (λ (r : Rec). r.id) (touching region (drop (k + 1) things))
+    rest = map (λ (r : Rec). r.id) (records_touching region (drop (k + 1) things))
 
     at_first : touches_region (abs_of thing) region ≡ true → p ≡ sensed_to start p.view.states (thing.id ∷ rest)
     at_first touch = is.hand ∙ ap (sensed_to start p.view.states) (left_first region things k d there touch)
@@ -153,9 +153,9 @@ module _ (F : Fixed) (things : List Rec) (region : List Bounds) (are : AreThings
         record {
           hand = sensed_more start p new thing.id state rest (at_first touch) after;
           near_is = ap (λ (rs : List Rec). rs ++ with_state thing state ∷ []) is.near_is
-              ∙ append_assoc before (filter_map (thing_with p.view.states) (touching region (take k things))) (with_state thing state ∷ [])
+              ∙ append_assoc before (filter_map (thing_with p.view.states) (records_touching region (take k things))) (with_state thing state ∷ [])
               ∙ ap (λ (rs : List Rec). before ++ rs) (sym more)
-              ∙ ap (λ (states : List NewState). before ++ filter_map (thing_with states) (touching region (take (k + 1) things))) (sym (states_more start p new thing.id state rest (at_first touch) after));
+              ∙ ap (λ (states : List NewState). before ++ filter_map (thing_with states) (records_touching region (take (k + 1) things))) (sym (states_more start p new thing.id state rest (at_first touch) after));
           room = omega (arith, long, most);
         }
 
@@ -190,9 +190,9 @@ module _ (F : Fixed) (things : List Rec) (region : List Bounds) (are : AreThings
   module _ (p : PassView) (near : List Rec) (k : ℕ) (end : length things ≤ k) (is : AreSensed region things start p before near k) where
     -- all are loaded
     pub sensed_view : p ≡ in_view start (record start.view { states = p.view.states; point = Resolving })
-    sensed_view = is.hand ∙ ap (λ (rs : List Rec). sensed_to start p.view.states (map (λ (r : Rec). r.id) (touching region rs))) (drop_all k things end)
+    sensed_view = is.hand ∙ ap (λ (rs : List Rec). sensed_to start p.view.states (map (λ (r : Rec). r.id) (records_touching region rs))) (drop_all k things end)
 
     pub sensed_near : near ≡ before ++ things_loaded F region p.view.states
     sensed_near = is.near_is
-        ∙ ap (λ (rs : List Rec). before ++ filter_map (thing_with p.view.states) (touching region rs)) (take_all k things end)
+        ∙ ap (λ (rs : List Rec). before ++ filter_map (thing_with p.view.states) (records_touching region rs)) (take_all k things end)
         ∙ ap (λ (rs : List Rec). before ++ rs) (sym (loaded_of_region F things region are p.view.states))

@@ -42,8 +42,8 @@ abbrev pub given_to : PassView → Command → PassView
 given_to p c = record p { given = Some c }
 
 -- the pass with this effect, which it keeps
-abbrev pub keeping : PassView → Effect → PassView
-keeping p e = record p { effect = Some e }
+abbrev pub pass_keeping : PassView → Effect → PassView
+pass_keeping p e = record p { effect = Some e }
 
 -- the same where all is still read and no write node is taken
 abbrev pub still_keeping : PassView → Effect → PassView

@@ -49,8 +49,8 @@ claimed_effect e [] = None
 claimed_effect e (node ∷ nodes) = Some e
 
 -- the view where the write nodes of the effect are held
-abbrev pub claimed : Fixed → Effect → View → View
-claimed F e view = record view {
+abbrev pub view_with_claims : Fixed → Effect → View → View
+view_with_claims F e view = record view {
   effect = claimed_effect e (nodes_written F view e);
   point = claimed_point (nodes_written F view e);
 }
@@ -61,8 +61,8 @@ pub record IsClaimed (F : Fixed) (e : Effect) (view : View) : Type 0 where
   pub effect : view.effect ≡ claimed_effect e (nodes_written F view e)
 
 -- the view after the commit of the effect at this place and all its stores, where these write nodes are still held
-abbrev pub written : Fixed → ℕ → Effect → List ℕ → View → View
-written F place e nodes view = record (view_after_commit F place e nodes view) { point = Releasing nodes }
+abbrev pub view_after_stores : Fixed → ℕ → Effect → List ℕ → View → View
+view_after_stores F place e nodes view = record (view_after_commit F place e nodes view) { point = Releasing nodes }
 
 -- the view where the command is done, which was committed with this effect at this place
 abbrev pub done : ℕ → Effect → View → View

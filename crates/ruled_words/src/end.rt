@@ -57,6 +57,6 @@ impl<'a, A: Action> SharedWords<'a, A> {
             rules: _rules,
             table,
         } = self;
-        words_of(table.close_with(first.into_place()))
+        words_of(table.close_with(first.into_table_seat()))
     }
 }

@@ -8,10 +8,10 @@ ghost use Rattle.ruled_words.specs.Sights.{with_one_made, sight_made, with_one_e
 ghost use Rattle.ruled_words.specs.Plays.{IsSoundSight};
 ghost use Rattle.ruled_words.specs.Passes.{sight_of, next_of_pass, word_after, IsReady, HasGone};
 ghost use Rattle.ruled_words.specs.WordSteps.{word_by, MayBe};
-ghost use Rattle.ruled_words.specs.Hands.{IsPlain, given_to, keeping, pass_view};
+ghost use Rattle.ruled_words.specs.Hands.{IsPlain, given_to, pass_keeping, pass_view};
 ghost use Rattle.entity_recs.specs.Commands.{command_of};
 
-use crate::rule::key::{Place, Words};
+use crate::rule::key::{TableSeat, Words};
 use crate::setting::Setting;
 use crate::steps::one_step::step_as;
 use crate::steps::seats::{end, look, make};
@@ -24,7 +24,7 @@ use std::marker::{Brand, Model};
 /// clauses alone.
 #[derive(Drop)]
 pub struct Hand {
-    pub(crate) place: Place,
+    pub(crate) place: TableSeat,
     pub(crate) setting: Setting,
     pub(crate) number: u8,
 }
@@ -42,7 +42,7 @@ impl Model for Hand {
 
 impl Hand {
     /// The place.
-    pub(crate) fn into_place(self) -> Place
+    pub(crate) fn into_table_seat(self) -> TableSeat
         ensures { (result.table_id ≡ self.table) × (result.me ≡ (sight_of self, [])) }
     {
         self.place
@@ -148,14 +148,14 @@ impl Hand {
         step: WordStep,
     ) -> u64
         requires ready { IsReady (fixed_by A.meaning words.now.key.action.value words.now.key.world.value)
-            (length words.now.key.rooms.items) words.now.table_id (keeping self.old effect.now) self.old word }
+            (length words.now.key.rooms.items) words.now.table_id (pass_keeping self.old effect.now) self.old word }
         requires wide { words.now.table_id.words ≡ TABLE_WORDS }
         requires left { (found : ℕ) → word_after (fixed_by A.meaning words.now.key.action.value
-            words.now.key.world.value) (keeping self.old effect.now) found ≡ word_by step found }
+            words.now.key.world.value) (pass_keeping self.old effect.now) found ≡ word_by step found }
         requires may { let F = fixed_by A.meaning words.now.key.action.value words.now.key.world.value in
-            MayBe step F self.old.view (the_next (next_of_pass F (keeping self.old effect.now))) word }
+            MayBe step F self.old.view (the_next (next_of_pass F (pass_keeping self.old effect.now))) word }
         ensures gone { HasGone (fixed_by A.meaning words.now.key.action.value words.now.key.world.value)
-            (length words.now.key.rooms.items) (keeping self.old effect.now) result self.new }
+            (length words.now.key.rooms.items) (pass_keeping self.old effect.now) result self.new }
         ensures plain { IsPlain self.old × IsPlain self.new }
         ensures stored { (new : ℕ) → step ≡ WordStep.Store new → result ≡ new }
     {
@@ -204,6 +204,6 @@ impl Hand {
         ensures table { self.new.table ≡ self.old.table }
         ensures sight { sight_of self.new ≡ with_one_ended (sight_of self.old) (sight_of other) }
     {
-        end(words, &mut self.place, other.into_place());
+        end(words, &mut self.place, other.into_table_seat());
     }
 }

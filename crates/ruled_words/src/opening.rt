@@ -10,7 +10,7 @@ ghost use Rattle.ruled_words.specs.Passes.{fixed_in, setting_of, sight_of};
 ghost use Rattle.ruled_words.specs.Sights.{with_one_made, sight_made};
 
 use crate::hand::Hand;
-use crate::rule::key::{Key, Place};
+use crate::rule::key::{Key, TableSeat};
 use crate::setting::Setting;
 use crate::shared_words::{SharedWords, WordTable};
 use arrayvec::ArrayVec;
@@ -89,7 +89,7 @@ fn lay_table<A: Action>(
     action: &A,
     world: &World,
     room: &[u32],
-) -> Result<(WordTable<A>, Place), AllocError>
+) -> Result<(WordTable<A>, TableSeat), AllocError>
     requires rooms { (0 < length room.now) × (length room.now ≤ MOST_SEATS) }
     requires taken { All (λ r. (A.meaning action.now).takes r ≡ true) (live_in world.now.records) }
     ensures words { IfOk result (λ t. (t.0.shared.table_id.words ≡ TABLE_WORDS) × (t.0.shared.table_id.slots ≡ 0)) }

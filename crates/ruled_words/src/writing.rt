@@ -3,7 +3,7 @@ ghost use Rattle.core_steps.specs.Views.{Resolving, effect_loaded, home, record_
 ghost use Rattle.core_steps.specs.Views.{inner_of_two};
 ghost use Rattle.core_seats.specs.Refusals.{AreRefusals};
 ghost use Rattle.ruled_words.specs.Passes.{fixed_in, IsOwn};
-ghost use Rattle.ruled_words.specs.Writing.{HasTried, nodes_written, written};
+ghost use Rattle.ruled_words.specs.Writing.{HasTried, nodes_written, view_after_stores};
 
 use crate::hand::Hand;
 use crate::shared_words::SharedWords;
@@ -68,7 +68,7 @@ impl<'a, A: Action> SharedWords<'a, A> {
         requires wanted_is { wanted.now.items ≡ hand.old.view.wanted }
         ensures own { IsOwn A.meaning self.now hand.new }
         ensures written { HasTried hand.old
-            (written (fixed_in A.meaning self.now) result effect.now nodes.now hand.old.view) hand.new }
+            (view_after_stores (fixed_in A.meaning self.now) result effect.now nodes.now hand.old.view) hand.new }
         ensures seen { hand.old.view.seen ≤ result }
         ensures small { result + 1 < 2 ^ 64 }
         ensures refusals { AreRefusals refusals.old hand.old.view → AreRefusals refusals.new hand.new.view }

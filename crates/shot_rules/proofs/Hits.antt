@@ -21,7 +21,7 @@ use Rattle.box_trace.proofs.Traces.{IsTrace-trace_of}
 use Rattle.box_trace.proofs.Stops.{next_of_way}
 use Rattle.trigger_rules.specs.Touching.{Walk, bodies_of_solids, new_state}
 use Rattle.shot_rules.specs.Targets.{is_set, shot_box, has_aim, way_along, is_in_way, stopper_at, target_of}
-use Rattle.shot_rules.specs.Shots.{with_shot_spent, may_fire, is_fired, stands, fells, state_after_hit, with_point, after_hit, after_meeting, spent, shot, after_shot}
+use Rattle.shot_rules.specs.Shots.{with_shot_spent, may_fire, is_fired, stands, fells, state_after_hit, with_point, after_hit, after_meeting, walk_after_shot, shot, after_shot}
 use Rattle.shot_rules.specs.Laws.{ShotsTakeAmmunition, IsShooterAfter, ShootersStayThemselves, IsHit, IsShot, Misses, Hits, HitsAreInTheWay, HasOneMore, AtMostOneIsHit, WhoIsFirstIsMet, DamageGrows, IsSameWay, OnlyTheWayMatters}
 use Rattle.shot_rules.proofs.Stoppers.{blocked_by_all}
 use Rattle.shot_rules.proofs.Nearest.{met_after, target_is}
@@ -87,7 +87,7 @@ take_ammunition = record {
       let some = (firing c w fired).some in
       let met = target_of (shot_box w.me.origin) (way_along c.wish_x c.wish_y) fixed near in
       let left : (after_shot fixed near c w).me.ammo ≡ w.me.ammo - 1 =
-      ap (λ (v : Walk). v.me.ammo) (fired_is fixed near c w fired) ∙ same_ammo c.frame (spent w) met in
+      ap (λ (v : Walk). v.me.ammo) (fired_is fixed near c w fired) ∙ same_ammo c.frame (walk_after_shot w) met in
       record { some = some; one = ap (λ (n : ℕ). n + 1) left ∙ less_one w.me.ammo some };
   unfired = unfired_is;
 }
@@ -124,7 +124,7 @@ pub stay_shooters : ShootersStayThemselves
 stay_shooters fixed near c w = by (is_fired c w)
   where
     by : (t : Bool) → IsShooterAfter w.me (cond t (shot fixed near c w) w).me
-    by true = spent_and_met w.me (shot fixed near c w).me (met_after_shot c.frame (spent w) (target_of (shot_box w.me.origin) (way_along c.wish_x c.wish_y) fixed near))
+    by true = spent_and_met w.me (shot fixed near c w).me (met_after_shot c.frame (walk_after_shot w) (target_of (shot_box w.me.origin) (way_along c.wish_x c.wish_y) fixed near))
     by false = point_after w.me false
 
 -- ---- who is met
@@ -227,11 +227,11 @@ hit_is fixed near c w r standing_is met =
     }
 
 shot_is : (fixed : List Bounds) (near : List Rec) (c : Command) (w : Walk) (met : Option Rec)
-    → target_of (shot_box w.me.origin) (way_along c.wish_x c.wish_y) fixed near ≡ met → IsShot fixed near c w (after_meeting c.frame (spent w) met)
+    → target_of (shot_box w.me.origin) (way_along c.wish_x c.wish_y) fixed near ≡ met → IsShot fixed near c w (after_meeting c.frame (walk_after_shot w) met)
 shot_is fixed near c w None met = Misses refl
 shot_is fixed near c w (Some r) met = by (stands r) refl
   where
-    by : (t : Bool) → stands r ≡ t → IsShot fixed near c w (cond t (after_hit c.frame (spent w) r) (spent w))
+    by : (t : Bool) → stands r ≡ t → IsShot fixed near c w (cond t (after_hit c.frame (walk_after_shot w) r) (walk_after_shot w))
     by true e = Hits r (hit_is fixed near c w r e met) refl
     by false e = Misses refl
 

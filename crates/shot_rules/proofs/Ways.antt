@@ -8,7 +8,7 @@ use mir.Val.{to_z, of_z}
 use Rattle.arena_geo.specs.declared.vec3.Vec3.{Vec3}
 use Rattle.arena_geo.specs.Vectors.{IsNear, vector, plus, minus}
 use Rattle.arena_geo.specs.Bounds.{Bounds, bounds, IsBox, IsInRange}
-use Rattle.arena_geo.specs.Boxes.{moved, contains_on}
+use Rattle.arena_geo.specs.Boxes.{box_moved_by, contains_on}
 use Rattle.arena_geo.proofs.Containment.{all_three}
 use Rattle.box_trace.specs.Steps.{step_count, part_at}
 use Rattle.box_trace.proofs.Parts.{unsigned_abs-part_at_le, part_at-neg}
@@ -33,7 +33,7 @@ shot_is_box origin lo hi near lo_is hi_is = rw (lo_is, hi_is) (record {
 })
 
 -- at the end of its way it is in range
-pub shot_ends_in_range : (origin way : Vec3) (b : Bounds) → IsNear 1048576 origin → IsNear 65536 way → b ≡ shot_box origin → IsInRange (moved b way)
+pub shot_ends_in_range : (origin way : Vec3) (b : Bounds) → IsNear 1048576 origin → IsNear 65536 way → b ≡ shot_box origin → IsInRange (box_moved_by b way)
 shot_ends_in_range origin way b near far b_is = rw b_is (record {
   lo = record { x = omega (arith, ints, near.x, far.x); y = omega (arith, ints, near.y, far.y); z = omega (arith, ints, near.z, far.z) };
   hi = record { x = omega (arith, ints, near.x, far.x); y = omega (arith, ints, near.y, far.y); z = omega (arith, ints, near.z, far.z) };

@@ -9,7 +9,7 @@ use Rattle.entity_recs.specs.Commands.{Command}
 use Rattle.entity_recs.specs.Kinds.{is_player}
 use Rattle.trigger_rules.specs.Touching.{Walk}
 use Rattle.shot_rules.specs.Targets.{shot_box, way_along}
-use Rattle.shot_rules.specs.Shots.{is_fired, stands, with_shot_spent, with_point, state_after_hit, after_hit, after_meeting, spent, after_shot}
+use Rattle.shot_rules.specs.Shots.{is_fired, stands, with_shot_spent, with_point, state_after_hit, after_hit, after_meeting, walk_after_shot, after_shot}
 use Rattle.shot_rules.specs.Laws.{IsFirstInTheWay, IsHitDone, WhoStandsFirstIsHit}
 use Rattle.shot_rules.proofs.Hits.{fired_is, first_is_met}
 
@@ -26,7 +26,7 @@ fells_not : (s : ℕ) → s + 25 < 100 → nat_le 100 (s + 25) ≡ false
 fells_not s h = grind (arith, nat_tests)
 
 -- what a hit does in numbers
-hit_done : (frame : ℕ) (w : Walk) (r : Rec) → IsHitDone frame w r (after_hit frame (spent w) r)
+hit_done : (frame : ℕ) (w : Walk) (r : Rec) → IsHitDone frame w r (after_hit frame (walk_after_shot w) r)
 hit_done frame w r = record {
   state = state_after_hit r.state frame;
   states = refl;
@@ -47,12 +47,12 @@ hit_done frame w r = record {
 -- the walk after a shot that has met a player that isn't down
 hit_is_shot : (fixed : List Bounds) (near : List Rec) (c : Command) (w : Walk) (r : Rec) → is_fired c w ≡ true → stands r ≡ true
     → IsFirstInTheWay fixed near (shot_box w.me.origin) (way_along c.wish_x c.wish_y) r
-    → after_hit c.frame (spent w) r ≡ after_shot fixed near c w
+    → after_hit c.frame (walk_after_shot w) r ≡ after_shot fixed near c w
 hit_is_shot fixed near c w r fired standing first =
     sym (
     fired_is fixed near c w fired
-    ∙ ap (after_meeting c.frame (spent w)) (first_is_met fixed near (shot_box w.me.origin) (way_along c.wish_x c.wish_y) r first)
-    ∙ ap (λ (t : Bool). cond t (after_hit c.frame (spent w) r) (spent w)) standing
+    ∙ ap (after_meeting c.frame (walk_after_shot w)) (first_is_met fixed near (shot_box w.me.origin) (way_along c.wish_x c.wish_y) r first)
+    ∙ ap (λ (t : Bool). cond t (after_hit c.frame (walk_after_shot w) r) (walk_after_shot w)) standing
     )
 
 pub first_is_hit : WhoStandsFirstIsHit

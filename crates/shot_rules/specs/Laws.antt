@@ -4,7 +4,7 @@ use Rattle.std.specs.Prelude.{length, map, find, Contains, Some, ℤ, pos, neg_�
 use Rattle.arena_geo.specs.declared.vec3.Vec3.{Vec3}
 use Rattle.arena_geo.specs.Vectors.{vector}
 use Rattle.arena_geo.specs.Bounds.{Bounds, bounds}
-use Rattle.arena_geo.specs.Boxes.{overlaps, is_blocked, contains, grown}
+use Rattle.arena_geo.specs.Boxes.{overlaps, is_blocked, contains, box_grown_by}
 use Rattle.entity_recs.specs.declared.effect.NewState.{NewState}
 use Rattle.entity_recs.specs.declared.kind.Kind.TheVariants.{Player}
 use Rattle.entity_recs.specs.declared.rec.Rec.{Rec}
@@ -16,7 +16,7 @@ use Rattle.box_trace.specs.Steps.{step_count, body_at}
 use Rattle.trigger_rules.specs.Touching.{Walk, bodies_of_solids, new_state}
 use Rattle.shot_rules.specs.declared.numbers.TheConstants.{FIRE, LEAPT_BIT, HALF_WIDTH, RANGE, DAMAGE, DOWN, FRAMES_DOWN}
 use Rattle.shot_rules.specs.Targets.{shot_box, shot_range, has_aim, way_along, is_in_way, target_of}
-use Rattle.shot_rules.specs.Shots.{is_down, is_fired, state_after_hit, after_hit, spent, after_shot}
+use Rattle.shot_rules.specs.Shots.{is_down, is_fired, state_after_hit, after_hit, walk_after_shot, after_shot}
 
 -- the numbers of shots have these values
 pub record NumbersAreKnown : Type 0 where
@@ -104,7 +104,7 @@ abbrev pub ShotsStayNear : Type 0
 ShotsStayNear =
     (origin : Vec3) (wish_x wish_y : ℤ) (k : ℕ) → has_aim wish_x wish_y ≡ true
     → k ≤ step_count (way_along wish_x wish_y)
-    → contains (grown (bounds origin origin) (vector (pos 65792) (pos 65792) (pos 256)))
+    → contains (box_grown_by (bounds origin origin) (vector (pos 65792) (pos 65792) (pos 256)))
     (body_at (shot_box origin) (way_along wish_x wish_y) k)
     ≡ true
 
@@ -140,8 +140,8 @@ pub record IsHit (fixed : List Bounds) (near : List Rec) (c : Command) (w : Walk
 -- what a shot that is fired after this walk does: it hits nobody, and nothing but ammunition changes; or it hits one
 -- player
 pub data IsShot (fixed : List Bounds) (near : List Rec) (c : Command) (w after : Walk) : Type 0 where
-  Misses : after ≡ spent w → IsShot fixed near c w after
-  Hits : (r : Rec) → IsHit fixed near c w r → after ≡ after_hit c.frame (spent w) r → IsShot fixed near c w after
+  Misses : after ≡ walk_after_shot w → IsShot fixed near c w after
+  Hits : (r : Rec) → IsHit fixed near c w r → after ≡ after_hit c.frame (walk_after_shot w) r → IsShot fixed near c w after
 
 -- nobody is hit through a wall or a block, or through another solid, and nobody that is down is
 abbrev pub HitsAreInTheWay : Type 0

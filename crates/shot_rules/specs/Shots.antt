@@ -68,13 +68,13 @@ abbrev pub with_shot_spent : Rec → Rec
 with_shot_spent me = record me { ammo = me.ammo - 1 }
 
 -- the walk after which a shot is fired, with that shot spent
-abbrev pub spent : Walk → Walk
-spent w = walk_of (with_shot_spent w.me) w.states w.got w.ended
+abbrev pub walk_after_shot : Walk → Walk
+walk_after_shot w = walk_of (with_shot_spent w.me) w.states w.got w.ended
 
 -- what a shot does that is fired after this walk: one of the ammunition is spent, and what the shot meets first is hit
 abbrev pub shot : List Bounds → List Rec → Command → Walk → Walk
 shot fixed near c w =
-    after_meeting c.frame (spent w)
+    after_meeting c.frame (walk_after_shot w)
     (target_of (shot_box w.me.origin) (way_along c.wish_x c.wish_y) fixed near)
 
 -- after the shot of a move, if one is fired

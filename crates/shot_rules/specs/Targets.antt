@@ -5,14 +5,14 @@ use Rattle.std.specs.Int.{bit_at}
 use Rattle.arena_geo.specs.declared.vec3.Vec3.{Vec3}
 use Rattle.arena_geo.specs.Vectors.{vector}
 use Rattle.arena_geo.specs.Bounds.{Bounds, bounds}
-use Rattle.arena_geo.specs.Boxes.{overlaps, is_blocked, grown, moved, hull}
+use Rattle.arena_geo.specs.Boxes.{overlaps, is_blocked, box_grown_by, box_moved_by, hull}
 use Rattle.entity_recs.specs.declared.rec.Rec.{Rec}
 use Rattle.entity_recs.specs.Kinds.{is_solid}
 use Rattle.entity_recs.specs.Bodies.{body_of}
 use Rattle.box_trace.specs.Steps.{body_at}
 use Rattle.box_trace.specs.Traces.{trace_of}
 use Rattle.speed_rules.specs.declared.constants.TheConstants.{UNIT}
-use Rattle.speed_rules.specs.Measures.{scaled}
+use Rattle.speed_rules.specs.Measures.{scaled_part}
 use Rattle.speed_rules.specs.Wishes.{wish_length}
 use Rattle.trigger_rules.specs.Touching.{bodies_of_solids}
 use Rattle.shot_rules.specs.declared.numbers.TheConstants.{FIRE, HALF_WIDTH, RANGE}
@@ -23,11 +23,11 @@ is_set bits bit = bit_at bits bit == 1
 
 -- the box of a shot from this origin
 abbrev pub shot_box : Vec3 → Bounds
-shot_box origin = grown (bounds origin origin) (vector HALF_WIDTH HALF_WIDTH HALF_WIDTH)
+shot_box origin = box_grown_by (bounds origin origin) (vector HALF_WIDTH HALF_WIDTH HALF_WIDTH)
 
 -- how far a shot goes on an axis, of a wish there in units a second and the length of the whole wish
 abbrev pub range_on : ℤ → ℕ → ℤ
-range_on wish len = scaled (wish *ℤ UNIT) RANGE len
+range_on wish len = scaled_part (wish *ℤ UNIT) RANGE len
 
 -- there is a wish to go somewhere
 abbrev pub has_aim : ℤ → ℤ → Bool
@@ -44,7 +44,7 @@ way_if_any wish_x wish_y = if has_aim wish_x wish_y then Some (way_along wish_x 
 
 -- where a shot goes: its box at the start, its box at the end of its way, and all between
 abbrev pub shot_range : Vec3 → Vec3 → Bounds
-shot_range origin way = hull (shot_box origin) (moved (shot_box origin) way)
+shot_range origin way = hull (shot_box origin) (box_moved_by (shot_box origin) way)
 
 -- where the shot from this origin may go, with these buttons and this wish, if one is asked for
 abbrev pub range_if_any : Vec3 → ℕ → ℤ → ℤ → Option Bounds

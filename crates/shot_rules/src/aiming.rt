@@ -27,7 +27,7 @@ pub fn shot_box(origin: Vec3) -> Aabb
         y: HALF_WIDTH,
         z: HALF_WIDTH,
     };
-    Aabb::between(origin - half, origin + half)
+    Aabb::from_corners(origin - half, origin + half)
 }
 
 /// The way of a shot along this wish, in units a second. `None` exactly where there is no wish.

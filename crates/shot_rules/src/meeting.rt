@@ -1,7 +1,7 @@
 ghost use Rattle.std.specs.Prelude.{◌≡◌, ◌≤◌, [], ◌∷◌, ◌++◌, List, All, length};
 ghost use Rattle.arena_geo.specs.Vectors.{IsNear};
 ghost use Rattle.arena_geo.specs.Bounds.{Bounds, IsInRange};
-ghost use Rattle.arena_geo.specs.Boxes.{moved};
+ghost use Rattle.arena_geo.specs.Boxes.{box_moved_by};
 ghost use Rattle.box_trace.specs.declared.hit.TheConstants.{MOST_SOLIDS};
 ghost use Rattle.box_trace.specs.declared.way.TheConstants.{REACH};
 ghost use Rattle.entity_recs.specs.declared.rec.Rec.{Rec};
@@ -25,7 +25,7 @@ pub struct Met {
 /// What a box meets first, with one record more after those that were looked at.
 fn meeting_with(first: Met, body: &Aabb, way: Vec3, r: &Rec) -> Met
     requires near { IsNear REACH way }
-    requires in_range { IsInRange (moved body.now way) }
+    requires in_range { IsInRange (box_moved_by body.now way) }
     requires record { IsRecord r.now }
     ensures { (fixed : List Bounds) (near : List Rec) → IsMeeting body.now way fixed near first
         → IsMeeting body.now way fixed (near ++ r.now ∷ []) result }
@@ -48,7 +48,7 @@ fn meeting_with(first: Met, body: &Aabb, way: Vec3, r: &Rec) -> Met
 /// block.
 pub fn target(body: &Aabb, way: Vec3, fixed: &[Aabb], near: &[Rec]) -> Option<Rec>
     requires near { IsNear REACH way }
-    requires in_range { IsInRange (moved body.now way) }
+    requires in_range { IsInRange (box_moved_by body.now way) }
     requires few { length fixed.now ≤ MOST_SOLIDS }
     requires records { All IsRecord near.now }
     ensures { result ≡ targets.target_of body.now way fixed.now near.now }

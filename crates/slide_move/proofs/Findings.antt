@@ -5,7 +5,7 @@ use Rattle.std.proofs.lemmas.Bool.{eqb-true}
 use Rattle.arena_geo.specs.declared.vec3.Vec3.{Vec3}
 use Rattle.arena_geo.specs.Vectors.{zero_vector, minus}
 use Rattle.arena_geo.specs.Bounds.{Bounds}
-use Rattle.arena_geo.specs.Boxes.{moved}
+use Rattle.arena_geo.specs.Boxes.{box_moved_by}
 use Rattle.box_trace.specs.declared.axis.Axis.{Axis}
 use Rattle.box_trace.specs.declared.axis.Axis.TheVariants.{X, Y, Z}
 use Rattle.box_trace.specs.declared.hit.Hit.{Hit}
@@ -48,8 +48,8 @@ by_axis : (body : Bounds) (way : Vec3) (solids : List Bounds) (axis : Option ℕ
     → (trace_of body way solids).whole ≡ false → Finding way (trace_of body way solids)
 by_axis body way solids None on partly = inr (inl (record { partly = partly; none = on }))
 by_axis body way solids (Some number) on partly =
-    let moved = axis_is_moved_along body way solids number on in
-    inr (inr (record { axis = moved.axis; runs = record { partly = partly; on = on ∙ ap Some moved.named; moves = moved.moves } }))
+    let box_moved_by = axis_is_moved_along body way solids number on in
+    inr (inr (record { axis = box_moved_by.axis; runs = record { partly = partly; on = on ∙ ap Some box_moved_by.named; moves = box_moved_by.moves } }))
 
 by_whole : (body : Bounds) (way : Vec3) (solids : List Bounds) (whole : Bool) → (trace_of body way solids).whole ≡ whole
     → Finding way (trace_of body way solids)
@@ -121,17 +121,17 @@ pub traces-last : (traces : ℕ) (body : Bounds) (vel way : Vec3) (solids : List
 unfolding traces_along
 traces-last traces body vel way solids none =
     let leg = leg_of body vel way solids in
-    let there = moved body leg.slid.shift in
+    let there = box_moved_by body leg.slid.shift in
     ap (λ (rest : Option Vec3). trace_of body way solids
     ∷ option_map_or (λ r. traces_along traces there leg.slid.vel r solids) rest []) none
 
 pub traces-next : (traces : ℕ) (body : Bounds) (vel way : Vec3) (solids : List Bounds) (rest : Vec3)
     → (leg_of body vel way solids).rest ≡ Some rest
     → traces_along (suc traces) body vel way solids
-    ≡ trace_of body way solids ∷ traces_along traces (moved body (leg_of body vel way solids).slid.shift) (leg_of body vel way solids).slid.vel rest solids
+    ≡ trace_of body way solids ∷ traces_along traces (box_moved_by body (leg_of body vel way solids).slid.shift) (leg_of body vel way solids).slid.vel rest solids
 unfolding traces_along
 traces-next traces body vel way solids rest some =
     let leg = leg_of body vel way solids in
-    let there = moved body leg.slid.shift in
+    let there = box_moved_by body leg.slid.shift in
     ap (λ (rest : Option Vec3). trace_of body way solids
     ∷ option_map_or (λ r. traces_along traces there leg.slid.vel r solids) rest []) some

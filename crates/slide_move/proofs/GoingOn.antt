@@ -8,7 +8,7 @@ use Rattle.std.proofs.lemmas.Option.{same_Some}
 use Rattle.arena_geo.specs.declared.vec3.Vec3.{Vec3}
 use Rattle.arena_geo.specs.Vectors.{zero_vector, plus, minus}
 use Rattle.arena_geo.specs.Bounds.{Bounds}
-use Rattle.arena_geo.specs.Boxes.{moved}
+use Rattle.arena_geo.specs.Boxes.{box_moved_by}
 use Rattle.arena_geo.proofs.Containment.{ThreePass, three_pass}
 use Rattle.box_trace.specs.declared.axis.Axis.{Axis}
 use Rattle.box_trace.specs.declared.axis.Axis.TheVariants.{X, Y, Z}
@@ -20,7 +20,7 @@ use Rattle.box_trace.proofs.Traces.{IsTrace-trace_of}
 use Rattle.slide_move.specs.declared.slid.Slid.{Slid}
 use Rattle.slide_move.specs.declared.leg.Leg.{Leg}
 use Rattle.slide_move.specs.Displacements.{displacement, without, is_zero_vector, some_way}
-use Rattle.slide_move.specs.Slides.{joined, leg_of, slide_along, slide_of}
+use Rattle.slide_move.specs.Slides.{slide_then, leg_of, slide_along, slide_of}
 use Rattle.slide_move.specs.Hits.{traces_along, traces_of, is_number_of, stops_on}
 use Rattle.slide_move.specs.Changes.{IsPart, IsPartOfWay, KeepsOrStops}
 use Rattle.slide_move.specs.Laws.{GoesOnAlong, GoesOnWhereNotStopped, EndsStillWhereStopped}
@@ -207,7 +207,7 @@ goes_on_last axis other vel way shift slid apart none shift_is vel_is = record {
 -- a leg, and then a slide along what is left
 goes_on_next : (axis other : Axis) (vel way shift rest : Vec3) (slid later : Slid)
     → (number_of other == number_of axis) ≡ false → without other (minus way shift) ≡ rest → slid.shift ≡ shift
-    → slid.vel ≡ without other vel → GoesOnAlong axis rest slid.vel later → GoesOnAlong axis way vel (joined slid later)
+    → slid.vel ≡ without other vel → GoesOnAlong axis rest slid.vel later → GoesOnAlong axis way vel (slide_then slid later)
 goes_on_next axis other vel way shift rest slid later apart left shift_is vel_is goes = record {
   shift =
       part-plus axis slid.shift later.shift
@@ -220,7 +220,7 @@ goes_on_next axis other vel way shift rest slid later apart left shift_is vel_is
 later_fails : (traces : ℕ) (axis : Axis) (body : Bounds) (vel way : Vec3) (solids : List Bounds) (rest : Vec3)
     → (leg_of body vel way solids).rest ≡ Some rest
     → list_any (stops_on axis) (traces_along (suc traces) body vel way solids) ≡ false
-    → list_any (stops_on axis) (traces_along traces (moved body (leg_of body vel way solids).slid.shift) (leg_of body vel way solids).slid.vel rest solids) ≡ false
+    → list_any (stops_on axis) (traces_along traces (box_moved_by body (leg_of body vel way solids).slid.shift) (leg_of body vel way solids).slid.vel rest solids) ≡ false
 later_fails traces axis body vel way solids rest some none =
     rest_fails _ _ (sym (ap (list_any (stops_on axis)) (traces-next traces body vel way solids rest some)) ∙ none)
 
@@ -240,7 +240,7 @@ GoesOnLater traces axis there vel solids =
 goes_on_after_hit : (traces : ℕ) (axis other : Axis) (body : Bounds) (vel way : Vec3) (solids : List Bounds)
     → moving way ≤ suc traces → list_any (stops_on axis) (traces_along (suc (suc traces)) body vel way solids) ≡ false
     → RunsInto other way (trace_of body way solids)
-    → GoesOnLater traces axis (moved body (leg_of body vel way solids).slid.shift) (leg_of body vel way solids).slid.vel solids
+    → GoesOnLater traces axis (box_moved_by body (leg_of body vel way solids).slid.shift) (leg_of body vel way solids).slid.vel solids
     → (rest : Option Vec3) → (leg_of body vel way solids).rest ≡ rest
     → GoesOnAlong axis way vel (slide_along (suc (suc traces)) body vel way solids)
 goes_on_after_hit traces axis other body vel way solids few none runs later None end =
@@ -273,7 +273,7 @@ goes_on_along zero axis body vel way solids few none (inr (inr into)) =
     absurd (omega (arith, few, moving_along into.axis way into.runs.moves))
 goes_on_along (suc traces) axis body vel way solids few none (inr (inr into)) =
     let leg = leg_of body vel way solids in
-    let there = moved body leg.slid.shift in
+    let there = box_moved_by body leg.slid.shift in
     goes_on_after_hit traces axis into.axis body vel way solids few none into.runs (λ rest fewer fails. goes_on_along traces axis there leg.slid.vel rest solids fewer fails (finding there rest solids)) leg.rest refl
 
 pub goes_on_where_not_stopped : GoesOnWhereNotStopped
@@ -302,13 +302,13 @@ still_to_the_end traces axis body vel way solids still None end =
 still_to_the_end traces axis body vel way solids still (Some rest) end =
     let leg = leg_of body vel way solids in
     ap (λ (slid : Slid). part axis slid.vel) (along-next traces body vel way solids rest end)
-    ∙ stays_still axis leg.slid.vel _ (vel_kept_along traces (moved body leg.slid.shift) leg.slid.vel rest solids) still
+    ∙ stays_still axis leg.slid.vel _ (vel_kept_along traces (box_moved_by body leg.slid.shift) leg.slid.vel rest solids) still
 
 -- a slide that a later trace stops on the axis
 still_later : (traces : ℕ) (axis : Axis) (body : Bounds) (vel way : Vec3) (solids : List Bounds)
     → list_any (stops_on axis) (traces_along (suc traces) body vel way solids) ≡ true
     → stops_on axis (trace_of body way solids) ≡ false
-    → ((rest : Vec3) → list_any (stops_on axis) (traces_along traces (moved body (leg_of body vel way solids).slid.shift) (leg_of body vel way solids).slid.vel rest solids) ≡ true → part axis (slide_along traces (moved body (leg_of body vel way solids).slid.shift) (leg_of body vel way solids).slid.vel rest solids).vel ≡ pos 0)
+    → ((rest : Vec3) → list_any (stops_on axis) (traces_along traces (box_moved_by body (leg_of body vel way solids).slid.shift) (leg_of body vel way solids).slid.vel rest solids) ≡ true → part axis (slide_along traces (box_moved_by body (leg_of body vel way solids).slid.shift) (leg_of body vel way solids).slid.vel rest solids).vel ≡ pos 0)
     → (rest : Option Vec3) → (leg_of body vel way solids).rest ≡ rest
     → part axis (slide_along (suc traces) body vel way solids).vel ≡ pos 0
 still_later traces axis body vel way solids some first later None end =
@@ -323,7 +323,7 @@ still_later traces axis body vel way solids some first later (Some rest) end =
 ends_still_after_hit : (traces : ℕ) (axis other : Axis) (body : Bounds) (vel way : Vec3) (solids : List Bounds)
     → list_any (stops_on axis) (traces_along (suc traces) body vel way solids) ≡ true
     → RunsInto other way (trace_of body way solids)
-    → ((rest : Vec3) → list_any (stops_on axis) (traces_along traces (moved body (leg_of body vel way solids).slid.shift) (leg_of body vel way solids).slid.vel rest solids) ≡ true → part axis (slide_along traces (moved body (leg_of body vel way solids).slid.shift) (leg_of body vel way solids).slid.vel rest solids).vel ≡ pos 0)
+    → ((rest : Vec3) → list_any (stops_on axis) (traces_along traces (box_moved_by body (leg_of body vel way solids).slid.shift) (leg_of body vel way solids).slid.vel rest solids) ≡ true → part axis (slide_along traces (box_moved_by body (leg_of body vel way solids).slid.shift) (leg_of body vel way solids).slid.vel rest solids).vel ≡ pos 0)
     → (t : Bool) → (number_of other == number_of axis) ≡ t
     → part axis (slide_along (suc traces) body vel way solids).vel ≡ pos 0
 ends_still_after_hit traces axis other body vel way solids some runs later true same =
@@ -343,13 +343,13 @@ ends_still_along : (traces : ℕ) (axis : Axis) (body : Bounds) (vel way : Vec3)
 ends_still_along zero axis body vel way solids some found = absurd (no_trace_stops axis body vel way solids some)
 ends_still_along (suc traces) axis body vel way solids some (inl is) =
     let leg = leg_of body vel way solids in
-    still_later traces axis body vel way solids some (whole_never_stops axis (trace_of body way solids) is) (λ rest more. ends_still_along traces axis (moved body leg.slid.shift) leg.slid.vel rest solids more (finding (moved body leg.slid.shift) rest solids)) leg.rest refl
+    still_later traces axis body vel way solids some (whole_never_stops axis (trace_of body way solids) is) (λ rest more. ends_still_along traces axis (box_moved_by body leg.slid.shift) leg.slid.vel rest solids more (finding (box_moved_by body leg.slid.shift) rest solids)) leg.rest refl
 ends_still_along (suc traces) axis body vel way solids some (inr (inl stuck)) =
     let vel_is = ap (λ (t : Leg). part axis t.slid.vel) (leg-stuck body vel way solids stuck) in
     still_to_the_end traces axis body vel way solids (vel_is ∙ part-zero_vector axis) (leg_of body vel way solids).rest refl
 ends_still_along (suc traces) axis body vel way solids some (inr (inr into)) =
     let leg = leg_of body vel way solids in
-    ends_still_after_hit traces axis into.axis body vel way solids some into.runs (λ rest more. ends_still_along traces axis (moved body leg.slid.shift) leg.slid.vel rest solids more (finding (moved body leg.slid.shift) rest solids)) (number_of into.axis == number_of axis) refl
+    ends_still_after_hit traces axis into.axis body vel way solids some into.runs (λ rest more. ends_still_along traces axis (box_moved_by body leg.slid.shift) leg.slid.vel rest solids more (finding (box_moved_by body leg.slid.shift) rest solids)) (number_of into.axis == number_of axis) refl
 
 pub ends_still_where_stopped : EndsStillWhereStopped
 unfolding slide_of traces_of

@@ -4,7 +4,7 @@ use Rattle.std.specs.Option.{option_map_or}
 use Rattle.std.specs.List.{list_any}
 use Rattle.arena_geo.specs.declared.vec3.Vec3.{Vec3}
 use Rattle.arena_geo.specs.Bounds.{Bounds}
-use Rattle.arena_geo.specs.Boxes.{moved}
+use Rattle.arena_geo.specs.Boxes.{box_moved_by}
 use Rattle.box_trace.specs.declared.axis.Axis.{Axis}
 use Rattle.box_trace.specs.declared.axis.Axis.TheVariants.{X, Y, Z}
 use Rattle.box_trace.specs.declared.hit.Hit.{Hit}
@@ -68,7 +68,7 @@ unfolding slide_along traces_along
 side_along zero body vel way solids = refl
 side_along (suc traces) body vel way solids =
     let leg = leg_of body vel way solids in
-    let there = moved body leg.slid.shift in
+    let there = box_moved_by body leg.slid.shift in
     let first = side-leg_of body vel way solids (finding body way solids) in
     let later = side_then leg.slid.vel (λ r. slide_along traces there leg.slid.vel r solids)
     (λ r. traces_along traces there leg.slid.vel r solids) leg.rest

@@ -4,7 +4,7 @@ use Rattle.std.specs.Option.{option_map_or}
 use Rattle.arena_geo.specs.declared.vec3.Vec3.{Vec3}
 use Rattle.arena_geo.specs.Vectors.{zero_vector, plus, minus}
 use Rattle.arena_geo.specs.Bounds.{Bounds}
-use Rattle.arena_geo.specs.Boxes.{moved, is_blocked}
+use Rattle.arena_geo.specs.Boxes.{box_moved_by, is_blocked}
 use Rattle.arena_geo.proofs.Vectors.{plus-zero_vector}
 use Rattle.box_trace.specs.declared.axis.Axis.{Axis}
 use Rattle.box_trace.specs.declared.hit.Hit.{Hit}
@@ -74,7 +74,7 @@ EndsFree-leg_of body vel way solids =
 
 -- one shift that ends free, and then another
 pub EndsFree-plus : (body : Bounds) (first next : Vec3) (solids : List Bounds) → EndsFree body first solids
-    → EndsFree (moved body first) next solids → EndsFree body (plus first next) solids
+    → EndsFree (box_moved_by body first) next solids → EndsFree body (plus first next) solids
 EndsFree-plus body first next solids p (inl stays) =
     let P : Vec3 → Type 0 = λ shift. EndsFree body shift solids in
     subst P (sym (ap (plus first) stays ∙ plus-zero_vector first)) p

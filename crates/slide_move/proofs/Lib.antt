@@ -3,7 +3,7 @@ pub mod Parts
 pub mod Ways
 pub mod Legs
 pub mod Slides
-pub mod Places
+pub mod SlideBodies
 pub mod Underway
 pub mod Reaches
 pub mod Insides

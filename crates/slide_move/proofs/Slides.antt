@@ -4,7 +4,7 @@ use Rattle.std.specs.Option.{option_map_or}
 use Rattle.arena_geo.specs.declared.vec3.Vec3.{Vec3}
 use Rattle.arena_geo.specs.Vectors.{minus}
 use Rattle.arena_geo.specs.Bounds.{Bounds}
-use Rattle.arena_geo.specs.Boxes.{moved}
+use Rattle.arena_geo.specs.Boxes.{box_moved_by}
 use Rattle.slide_move.specs.declared.slid.Slid.{Slid}
 use Rattle.slide_move.specs.Displacements.{displacement}
 use Rattle.slide_move.specs.Slides.{still, leg_of, slide_along, slide_of}
@@ -24,7 +24,7 @@ unfolding slide_along
 shift_is_part_along zero body vel way solids = IsPartOfWay-zero_vector way
 shift_is_part_along (suc traces) body vel way solids =
     let leg = leg_of body vel way solids in
-    let there = moved body leg.slid.shift in
+    let there = box_moved_by body leg.slid.shift in
     let is = IsLeg-leg_of body vel way solids in
     IsPartOfWay-plus way leg.slid.shift _ is.goes
     (part_then (minus way leg.slid.shift) leg.slid.vel (λ r. slide_along traces there leg.slid.vel r solids) leg.rest is.leaves (λ r. shift_is_part_along traces there leg.slid.vel r solids))
@@ -40,7 +40,7 @@ unfolding slide_along
 vel_kept_along zero body vel way solids = KeepsOrStops-refl vel
 vel_kept_along (suc traces) body vel way solids =
     let leg = leg_of body vel way solids in
-    let there = moved body leg.slid.shift in
+    let there = box_moved_by body leg.slid.shift in
     KeepsOrStops-trans vel leg.slid.vel _ (IsLeg-leg_of body vel way solids).keeps
     (vel_then leg.slid.vel (λ r. slide_along traces there leg.slid.vel r solids) leg.rest (λ r. vel_kept_along traces there leg.slid.vel r solids))
 
@@ -55,7 +55,7 @@ unfolding slide_along
 ends_free_along zero body vel way solids = inl refl
 ends_free_along (suc traces) body vel way solids =
     let leg = leg_of body vel way solids in
-    let there = moved body leg.slid.shift in
+    let there = box_moved_by body leg.slid.shift in
     EndsFree-plus body leg.slid.shift _ solids (EndsFree-leg_of body vel way solids)
     (free_then there leg.slid.vel solids (λ r. slide_along traces there leg.slid.vel r solids) leg.rest (λ r. ends_free_along traces there leg.slid.vel r solids))
 

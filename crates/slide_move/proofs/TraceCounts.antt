@@ -5,7 +5,7 @@ use Rattle.std.proofs.lemmas.Bool.Decides.{Decides-int_eq}
 use Rattle.arena_geo.specs.declared.vec3.Vec3.{Vec3}
 use Rattle.arena_geo.specs.Vectors.{minus}
 use Rattle.arena_geo.specs.Bounds.{Bounds}
-use Rattle.arena_geo.specs.Boxes.{moved}
+use Rattle.arena_geo.specs.Boxes.{box_moved_by}
 use Rattle.box_trace.specs.declared.axis.Axis.{Axis}
 use Rattle.box_trace.specs.declared.hit.Hit.{Hit}
 use Rattle.box_trace.specs.Steps.{shift_at}
@@ -53,7 +53,7 @@ one_trace traces body vel way solids end =
 -- a trace that runs into a solid, and those of what it leaves
 one_more_trace : (traces : ℕ) (axis : Axis) (body : Bounds) (vel way : Vec3) (solids : List Bounds)
     → RunsInto axis way (trace_of body way solids)
-    → ((rest : Vec3) → length (traces_along traces (moved body (leg_of body vel way solids).slid.shift) (leg_of body vel way solids).slid.vel rest solids) ≤ max 1 (moving rest))
+    → ((rest : Vec3) → length (traces_along traces (box_moved_by body (leg_of body vel way solids).slid.shift) (leg_of body vel way solids).slid.vel rest solids) ≤ max 1 (moving rest))
     → (rest : Option Vec3) → (leg_of body vel way solids).rest ≡ rest
     → length (traces_along (suc traces) body vel way solids) ≤ max 1 (moving way)
 one_more_trace traces axis body vel way solids runs later None end = one_trace traces body vel way solids end
@@ -79,7 +79,7 @@ count_along (suc traces) body vel way solids (inr (inl stuck)) =
     one_trace traces body vel way solids (ap (λ (t : Leg). t.rest) (leg-stuck body vel way solids stuck))
 count_along (suc traces) body vel way solids (inr (inr into)) =
     let leg = leg_of body vel way solids in
-    let there = moved body leg.slid.shift in
+    let there = box_moved_by body leg.slid.shift in
     one_more_trace traces into.axis body vel way solids into.runs (λ rest. count_along traces there leg.slid.vel rest solids (finding there rest solids)) leg.rest refl
 
 pub at_most_three_traces : AtMostThreeTraces

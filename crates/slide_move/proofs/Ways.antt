@@ -6,7 +6,7 @@ use Rattle.std.proofs.Math.IntN.{+ℤ_assoc}
 use Rattle.arena_geo.specs.declared.vec3.Vec3.{Vec3}
 use Rattle.arena_geo.specs.Vectors.{zero_vector, IsNear, Fits, plus, minus}
 use Rattle.arena_geo.specs.Bounds.{Bounds, IsInRange}
-use Rattle.arena_geo.specs.Boxes.{moved}
+use Rattle.arena_geo.specs.Boxes.{box_moved_by}
 use Rattle.arena_geo.proofs.Vectors.{plus-zero_vector}
 use Rattle.box_trace.specs.declared.axis.Axis.{Axis}
 use Rattle.box_trace.specs.declared.axis.Axis.TheVariants.{X, Y, Z}
@@ -41,10 +41,10 @@ minus-plus u v w =
 pub minus-zero_vector : (v : Vec3) → minus v zero_vector ≡ v
 minus-zero_vector v = λ i. record { x = minus_zero v.x i; y = minus_zero v.y i; z = minus_zero v.z i }
 
-pub moved-zero_vector : (body : Bounds) → moved body zero_vector ≡ body
+pub moved-zero_vector : (body : Bounds) → box_moved_by body zero_vector ≡ body
 moved-zero_vector body = λ i. record { lo = plus-zero_vector body.lo i; hi = plus-zero_vector body.hi i }
 
-pub moved-moved : (body : Bounds) (u v : Vec3) → moved (moved body u) v ≡ moved body (plus u v)
+pub moved-moved : (body : Bounds) (u v : Vec3) → box_moved_by (box_moved_by body u) v ≡ box_moved_by body (plus u v)
 moved-moved body u v = λ i. record { lo = plus-assoc body.lo u v i; hi = plus-assoc body.hi u v i }
 
 -- ---- parts of a way
@@ -120,7 +120,7 @@ near_after_part from way part far p first last = record {
 
 -- a body that is in range at both ends of a way is in range at the end of a part of it
 pub IsInRange-part : (body : Bounds) (way part : Vec3) → IsPartOfWay way part → IsInRange body
-    → IsInRange (moved body way) → IsInRange (moved body part)
+    → IsInRange (box_moved_by body way) → IsInRange (box_moved_by body part)
 IsInRange-part body way part p first last = record {
   lo = near_after_part body.lo way part 2097152 p first.lo last.lo;
   hi = near_after_part body.hi way part 2097152 p first.hi last.hi;

@@ -3,7 +3,7 @@ use Rattle.std.specs.Prelude.{◌≡◌, false, ◌≤◌, ◌⊎◌, List, ℤ,
 use Rattle.arena_geo.specs.declared.vec3.Vec3.{Vec3}
 use Rattle.arena_geo.specs.Vectors.{zero_vector}
 use Rattle.arena_geo.specs.Bounds.{Bounds}
-use Rattle.arena_geo.specs.Boxes.{moved, is_blocked}
+use Rattle.arena_geo.specs.Boxes.{box_moved_by, is_blocked}
 
 -- on an axis it goes no farther than the whole way, and not the other way
 pub record IsPart (whole part : ℤ) : Type 0 where
@@ -25,4 +25,4 @@ pub record KeepsOrStops (old new : Vec3) : Type 0 where
 
 -- the body doesn't move, or no solid overlaps it where it comes to
 abbrev pub EndsFree : Bounds → Vec3 → List Bounds → Type 0
-EndsFree body shift solids = (shift ≡ zero_vector) ⊎ (is_blocked (moved body shift) solids ≡ false)
+EndsFree body shift solids = (shift ≡ zero_vector) ⊎ (is_blocked (box_moved_by body shift) solids ≡ false)

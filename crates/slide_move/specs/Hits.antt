@@ -4,7 +4,7 @@ use Rattle.std.specs.Prelude.{List, [], ◌∷◌, Option, Some, None, is_none}
 use Rattle.std.specs.Option.{option_map_or}
 use Rattle.arena_geo.specs.declared.vec3.Vec3.{Vec3}
 use Rattle.arena_geo.specs.Bounds.{Bounds}
-use Rattle.arena_geo.specs.Boxes.{moved}
+use Rattle.arena_geo.specs.Boxes.{box_moved_by}
 use Rattle.box_trace.specs.declared.axis.Axis.{Axis}
 use Rattle.box_trace.specs.declared.axis.Axis.TheVariants.{X, Y}
 use Rattle.box_trace.specs.declared.hit.Hit.{Hit}
@@ -18,7 +18,7 @@ unfoldable pub traces_along : ℕ → Bounds → Vec3 → Vec3 → List Bounds �
 traces_along zero body vel way solids = []
 traces_along (suc traces) body vel way solids =
     let leg = leg_of body vel way solids in
-    let there = moved body leg.slid.shift in
+    let there = box_moved_by body leg.slid.shift in
     trace_of body way solids
     ∷ option_map_or (λ rest. traces_along traces there leg.slid.vel rest solids) leg.rest []
 

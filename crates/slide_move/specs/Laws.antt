@@ -4,7 +4,7 @@ use Rattle.std.specs.List.{list_any}
 use Rattle.arena_geo.specs.declared.vec3.Vec3.{Vec3}
 use Rattle.arena_geo.specs.Vectors.{IsNear}
 use Rattle.arena_geo.specs.Bounds.{Bounds, IsInRange, IsOrdered}
-use Rattle.arena_geo.specs.Boxes.{contains, grown, moved, is_blocked}
+use Rattle.arena_geo.specs.Boxes.{contains, box_grown_by, box_moved_by, is_blocked}
 use Rattle.box_trace.specs.declared.axis.Axis.{Axis}
 use Rattle.box_trace.specs.Axes.{part}
 use Rattle.box_trace.specs.Traces.{IsFreeWay}
@@ -13,7 +13,7 @@ use Rattle.slide_move.specs.declared.slid.Slid.{Slid}
 use Rattle.slide_move.specs.declared.sliding.TheConstants.{GREATEST_SPEED}
 use Rattle.slide_move.specs.Displacements.{displacement, reach}
 use Rattle.slide_move.specs.Slides.{slide_of}
-use Rattle.slide_move.specs.Places.{places_of, last_place}
+use Rattle.slide_move.specs.SlideBodies.{bodies_on_slide, last_body}
 use Rattle.slide_move.specs.Hits.{traces_of, hits_sideways, stops_on}
 use Rattle.slide_move.specs.Changes.{IsPartOfWay, KeepsOrStops}
 
@@ -77,34 +77,34 @@ VelocityIsKeptOrStopped =
     → KeepsOrStops vel (slide_of body vel ms solids).vel
 
 -- no solid overlaps the body anywhere on its slide but perhaps at the start
-abbrev pub PlacesAreFree : Type 0
-PlacesAreFree =
+abbrev pub BodiesAreFree : Type 0
+BodiesAreFree =
     (body : Bounds) (vel : Vec3) (ms : ℕ) (solids : List Bounds)
-    → All (λ place. is_blocked place solids ≡ false) (places_of body vel ms solids)
+    → All (λ place. is_blocked place solids ≡ false) (bodies_on_slide body vel ms solids)
 
 -- the last of the places is where the slide ends
-abbrev pub EndsAtLastPlace : Type 0
-EndsAtLastPlace =
+abbrev pub EndsAtLastBody : Type 0
+EndsAtLastBody =
     (body : Bounds) (vel : Vec3) (ms : ℕ) (solids : List Bounds)
-    → moved body (slide_of body vel ms solids).shift ≡ last_place body (places_of body vel ms solids)
+    → box_moved_by body (slide_of body vel ms solids).shift ≡ last_body body (bodies_on_slide body vel ms solids)
 
 -- a body that is in range at the start, and would be at the end in the open, is in range everywhere on its slide
-abbrev pub PlacesAreInRange : Type 0
-PlacesAreInRange =
+abbrev pub BodiesAreInRange : Type 0
+BodiesAreInRange =
     (body : Bounds) (vel : Vec3) (ms : ℕ) (solids : List Bounds)
-    → IsInRange body → IsInRange (moved body (displacement vel ms)) → All IsInRange (places_of body vel ms solids)
+    → IsInRange body → IsInRange (box_moved_by body (displacement vel ms)) → All IsInRange (bodies_on_slide body vel ms solids)
 
 -- a box that stays in range when it grows by the reach is in range wherever a velocity of a slide would take it
 abbrev pub ReachSuffices : Type 0
 ReachSuffices =
     (body : Bounds) (vel : Vec3) (ms : ℕ)
-    → IsOrdered body → IsNear GREATEST_SPEED vel → ms ≤ 50 → IsInRange (grown body reach)
-    → IsInRange (moved body (displacement vel ms))
+    → IsOrdered body → IsNear GREATEST_SPEED vel → ms ≤ 50 → IsInRange (box_grown_by body reach)
+    → IsInRange (box_moved_by body (displacement vel ms))
 
 -- the body is inside the arena, faces counted, at each of its places and at the end
 pub record SlidesInside (arena body : Bounds) (vel : Vec3) (ms : ℕ) (solids : List Bounds) : Type 0 where
-  pub at_places : All (λ place. contains arena place ≡ true) (places_of body vel ms solids)
-  pub at_end : contains arena (moved body (slide_of body vel ms solids).shift) ≡ true
+  pub at_places : All (λ place. contains arena place ≡ true) (bodies_on_slide body vel ms solids)
+  pub at_end : contains arena (box_moved_by body (slide_of body vel ms solids).shift) ≡ true
 
 -- a body inside the arena is inside everywhere on its slide, where the solids have the walls of the arena
 abbrev pub SlideStaysInside : Type 0

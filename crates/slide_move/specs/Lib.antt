@@ -8,7 +8,7 @@ pub use Rattle.box_trace.specs.Traces
 pub use Rattle.box_trace.specs.Walls
 pub mod Displacements
 pub mod Slides
-pub mod Places
+pub mod SlideBodies
 pub mod Hits
 pub mod Changes
 pub mod Laws

@@ -4,7 +4,7 @@ use Rattle.std.specs.Option.{option_map_or}
 use Rattle.arena_geo.specs.declared.vec3.Vec3.{Vec3}
 use Rattle.arena_geo.specs.Vectors.{zero_vector, plus, minus}
 use Rattle.arena_geo.specs.Bounds.{Bounds}
-use Rattle.arena_geo.specs.Boxes.{moved}
+use Rattle.arena_geo.specs.Boxes.{box_moved_by}
 use Rattle.box_trace.specs.declared.axis.Axis.{Axis}
 use Rattle.box_trace.specs.declared.axis.Axis.TheVariants.{X, Y, Z}
 use Rattle.box_trace.specs.declared.hit.Hit.{Hit}
@@ -20,8 +20,8 @@ abbrev pub still : Vec3 → Slid
 still vel = record { shift = zero_vector; vel = vel; side = false }
 
 -- a slide, and then another one
-abbrev pub joined : Slid → Slid → Slid
-joined first next = record {
+abbrev pub slide_then : Slid → Slid → Slid
+slide_then first next = record {
   shift = plus first.shift next.shift;
   vel = next.vel;
   side = first.side || next.side;
@@ -65,8 +65,8 @@ unfoldable pub slide_along : ℕ → Bounds → Vec3 → Vec3 → List Bounds �
 slide_along zero body vel way solids = still vel
 slide_along (suc traces) body vel way solids =
     let leg = leg_of body vel way solids in
-    let there = moved body leg.slid.shift in
-    joined leg.slid
+    let there = box_moved_by body leg.slid.shift in
+    slide_then leg.slid
     (option_map_or (λ rest. slide_along traces there leg.slid.vel rest solids) leg.rest (still leg.slid.vel))
 
 -- the slide of a body at this velocity in so many milliseconds

@@ -1,6 +1,6 @@
 ghost use Rattle.slide_move.specs.Laws.{LimitIsKnown, FreeSlideGoesAll, SideIsSidewaysHit, GoesOnWhereNotStopped};
 ghost use Rattle.slide_move.specs.Laws.{EndsStillWhereStopped, AtMostThreeTraces, ShiftIsPart, VelocityIsKeptOrStopped};
-ghost use Rattle.slide_move.specs.Laws.{PlacesAreFree, EndsAtLastPlace, PlacesAreInRange, ReachSuffices};
+ghost use Rattle.slide_move.specs.Laws.{BodiesAreFree, EndsAtLastBody, BodiesAreInRange, ReachSuffices};
 ghost use Rattle.slide_move.specs.Laws.{SlideStaysInside};
 ghost use Rattle.slide_move.specs.FreeWays.{FreeSlidesGoByTheirVelocity};
 
@@ -45,18 +45,18 @@ pub fn velocity_is_kept_or_stopped()
 {}
 
 /// No solid overlaps the body anywhere on its slide but perhaps at the start.
-pub fn places_are_free()
-    ensures { PlacesAreFree }
+pub fn bodies_are_free()
+    ensures { BodiesAreFree }
 {}
 
 /// The last of the places on a slide is where it ends.
-pub fn ends_at_last_place()
-    ensures { EndsAtLastPlace }
+pub fn ends_at_last_body()
+    ensures { EndsAtLastBody }
 {}
 
 /// A body that is in range at the start, and would be at the end in the open, is in range everywhere on its slide.
-pub fn places_are_in_range()
-    ensures { PlacesAreInRange }
+pub fn bodies_are_in_range()
+    ensures { BodiesAreInRange }
 {}
 
 /// A box that stays in range when it grows by 30,000 sub-units on both sides of each axis is in range wherever a

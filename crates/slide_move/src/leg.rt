@@ -1,7 +1,7 @@
 ghost use Rattle.std.specs.Prelude.{◌≡◌, ◌+◌, ◌≤◌, ◌++◌, length};
 ghost use Rattle.arena_geo.specs.Vectors.{IsNear};
 ghost use Rattle.arena_geo.specs.Bounds.{IsInRange};
-ghost use Rattle.arena_geo.specs.Boxes.{moved};
+ghost use Rattle.arena_geo.specs.Boxes.{box_moved_by};
 ghost use Rattle.box_trace.specs.Steps as steps;
 ghost use Rattle.slide_move.specs.Slides as slides;
 ghost use Rattle.slide_move.specs.Slides.{last_leg, leg_after, leg_of};
@@ -34,7 +34,7 @@ impl Leg {
     /// The leg of a body that goes this way at this velocity.
     pub fn of(body: &Aabb, vel: Vec3, way: Vec3, fixed: &[Aabb], moving: &[Aabb]) -> Leg
         requires near { IsNear REACH way }
-        requires in_range { IsInRange (moved body.now way) }
+        requires in_range { IsInRange (box_moved_by body.now way) }
         requires few { length fixed.now + length moving.now ≤ MOST_SOLIDS }
         ensures { result ≡ leg_of body.now vel way (fixed.now ++ moving.now) }
     {

@@ -1,6 +1,6 @@
 ghost use Rattle.std.specs.Prelude.{◌≡◌};
 ghost use Rattle.arena_geo.specs.Vectors.{Fits, plus};
-ghost use Rattle.slide_move.specs.Slides.{joined, still};
+ghost use Rattle.slide_move.specs.Slides.{slide_then, still};
 
 use arena_geo::Vec3;
 
@@ -30,7 +30,7 @@ impl Slid {
     /// This slide, and then the next.
     pub(crate) fn then(self, next: Slid) -> Slid
         requires { Fits (plus self.shift next.shift) }
-        ensures { result ≡ joined self next }
+        ensures { result ≡ slide_then self next }
     {
         Slid {
             shift: self.shift + next.shift,

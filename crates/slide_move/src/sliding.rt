@@ -1,7 +1,7 @@
 ghost use Rattle.std.specs.Prelude.{◌≡◌, ◌+◌, ◌≤◌, ◌++◌, length};
 ghost use Rattle.arena_geo.specs.Vectors.{IsNear};
 ghost use Rattle.arena_geo.specs.Bounds.{IsInRange};
-ghost use Rattle.arena_geo.specs.Boxes.{moved};
+ghost use Rattle.arena_geo.specs.Boxes.{box_moved_by};
 ghost use Rattle.slide_move.specs.Displacements.{displacement};
 ghost use Rattle.slide_move.specs.Slides.{slide_along, slide_of};
 ghost use Rattle.slide_move.specs.Changes.{IsPartOfWay, KeepsOrStops, EndsFree};
@@ -32,13 +32,13 @@ pub fn slide(body: &Aabb, vel: Vec3, ms: u8, fixed: &[Aabb], moving: &[Aabb]) ->
     requires near { IsNear GREATEST_SPEED vel }
     requires least { 1 ≤ ms }
     requires most { ms ≤ 50 }
-    requires in_range { IsInRange (moved body.now (displacement vel ms)) }
+    requires in_range { IsInRange (box_moved_by body.now (displacement vel ms)) }
     requires few { length fixed.now + length moving.now ≤ MOST_SOLIDS }
     ensures value { result ≡ slide_of body.now vel ms (fixed.now ++ moving.now) }
     ensures shift { IsPartOfWay (displacement vel ms) result.shift }
     ensures vel { KeepsOrStops vel result.vel }
     ensures near { IsNear 30000 result.shift }
-    ensures in_range { IsInRange (moved body.now result.shift) }
+    ensures in_range { IsInRange (box_moved_by body.now result.shift) }
     ensures free { EndsFree body.now result.shift (fixed.now ++ moving.now) }
 {
     slide_along(body, vel, displacement(vel, ms), fixed, moving)
@@ -47,10 +47,10 @@ pub fn slide(body: &Aabb, vel: Vec3, ms: u8, fixed: &[Aabb], moving: &[Aabb]) ->
 /// The slide of a body that goes this way at this velocity.
 fn slide_along(body: &Aabb, vel: Vec3, way: Vec3, fixed: &[Aabb], moving: &[Aabb]) -> Slid
     requires near { IsNear 30000 way }
-    requires in_range { IsInRange (moved body.now way) }
+    requires in_range { IsInRange (box_moved_by body.now way) }
     requires few { length fixed.now + length moving.now ≤ MOST_SOLIDS }
     ensures value { result ≡ slide_along 4 body.now vel way (fixed.now ++ moving.now) }
-    ensures in_range { IsInRange (moved body.now result.shift) }
+    ensures in_range { IsInRange (box_moved_by body.now result.shift) }
 {
     let mut here = body.copied();
     let mut slid = Slid::still(vel);

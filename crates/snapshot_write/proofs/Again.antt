@@ -18,7 +18,7 @@ use Rattle.snapshot_write.specs.declared.seen.Seen.{Seen}
 use Rattle.snapshot_write.specs.declared.snapshot.Snapshot.{Snapshot}
 use Rattle.snapshot_write.specs.declared.snap_fault.SnapFault.TheVariants.{Short, Version, Order, Count, Long}
 use Rattle.snapshot_write.specs.Fields.{count_in, length_with, blocks_in, id_in}
-use Rattle.snapshot_write.specs.Cause.{are_rising, have_id, is_kind, has_wrong_own, has_wrong_field, has_wrong_blocks, breaks, cause_of}
+use Rattle.snapshot_write.specs.Faults.{are_rising, have_id, is_kind, has_wrong_own, has_wrong_field, has_wrong_blocks, breaks, fault_of}
 use Rattle.snapshot_write.specs.Reading.{own_in, seen_in, snapshot_in, answer, reading}
 use Rattle.snapshot_write.specs.Spelling.{status_of, block_of, spelling, IsOwn, IsSeen, AreSeen, ids_of, is_rising, IsSnapshot}
 use Rattle.snapshot_write.proofs.Fields.{vector_again, kind_again, status_again}
@@ -193,12 +193,12 @@ breaks_none s is =
     }
 
 -- where no rule is broken there is no cause
-no_cause : (bytes : List ℕ) → BreaksNone bytes → cause_of bytes ≡ None
+no_cause : (bytes : List ℕ) → BreaksNone bytes → fault_of bytes ≡ None
 no_cause bytes none = rw (none.short, none.version, none.order, none.count, none.long) refl
 
-pub spelled_cause : (s : Snapshot) → IsSnapshot s → cause_of (spelling s) ≡ None
-spelled_cause s is = no_cause (spelling s) (breaks_none s is)
+pub spelled_fault : (s : Snapshot) → IsSnapshot s → fault_of (spelling s) ≡ None
+spelled_fault s is = no_cause (spelling s) (breaks_none s is)
 
 -- a snapshot is read as it was written
 pub snapshot_again : (s : Snapshot) → IsSnapshot s → reading (spelling s) ≡ Ok s
-snapshot_again s is = ap (λ cause. answer cause (snapshot_in (spelling s))) (spelled_cause s is) ∙ ap (λ t. Ok t) (in_again s is)
+snapshot_again s is = ap (λ fault. answer fault (snapshot_in (spelling s))) (spelled_fault s is) ∙ ap (λ t. Ok t) (in_again s is)

@@ -7,7 +7,7 @@ use Rattle.std.specs.List.{list_any}
 use Rattle.std.specs.Simd.{first_chunks}
 use Rattle.snapshot_write.specs.declared.seen.Seen.{Seen}
 use Rattle.snapshot_write.specs.Fields.{id_in}
-use Rattle.snapshot_write.specs.Cause.{are_rising, has_wrong_field}
+use Rattle.snapshot_write.specs.Faults.{are_rising, has_wrong_field}
 use Rattle.snapshot_write.specs.Reading.{seen_in}
 use Rattle.snapshot_write.specs.Spelling.{is_rising}
 

@@ -4,7 +4,7 @@ use Rattle.std.proofs.lemmas.Int.{ints}
 use Rattle.std.proofs.lemmas.Bool.{eq-eqb, eqb-true, eqb-false, ne_eqb}
 use Rattle.arena_geo.specs.declared.vec3.Vec3.{Vec3}
 use Rattle.arena_geo.specs.Vectors.{vector}
-use Rattle.arena_geo.specs.Boxes.{touches_on, touches, grown}
+use Rattle.arena_geo.specs.Boxes.{touches_on, touches, box_grown_by}
 use Rattle.arena_geo.proofs.Containment.{three_pass, all_three}
 use Rattle.entity_recs.specs.declared.kind.Kind.{Kind}
 use Rattle.entity_recs.specs.declared.kind.Kind.TheVariants.{Player, Ammo, Gem, Teleporter, Goal, Lift}
@@ -61,7 +61,7 @@ module _ (flat high grow_flat grow_high : ℕ) (me it : Rec) (flat_is : flat ≡
     (growth_is : growth_of it.kind ≡ vector (pos grow_flat) (pos grow_flat) (pos grow_high)) where
   body_within : touches (abs_of it) (view_of me.origin) ≡ true → IsBodyWithin flat high me it
   body_within h =
-      let grown_so = subst (λ (growth : Vec3). touches (grown (body_of it) growth) (view_of me.origin) ≡ true) growth_is h in
+      let grown_so = subst (λ (growth : Vec3). touches (box_grown_by (body_of it) growth) (view_of me.origin) ≡ true) growth_is h in
       let t = three_pass _ _ _ grown_so in
       record {
         x = within-of flat grow_flat 262144 me.origin.x _ _ flat_is t.x;
@@ -71,7 +71,7 @@ module _ (flat high grow_flat grow_high : ℕ) (me it : Rec) (flat_is : flat ≡
 
   body_touches : IsBodyWithin flat high me it → touches (abs_of it) (view_of me.origin) ≡ true
   body_touches near =
-      subst (λ (growth : Vec3). touches (grown (body_of it) growth) (view_of me.origin) ≡ true) (sym growth_is)
+      subst (λ (growth : Vec3). touches (box_grown_by (body_of it) growth) (view_of me.origin) ≡ true) (sym growth_is)
       (all_three
       (touches-of flat grow_flat 262144 me.origin.x _ _ flat_is near.x)
       (touches-of flat grow_flat 262144 me.origin.y _ _ flat_is near.y)

@@ -7,14 +7,14 @@ use Rattle.world_tree.specs.Live.{record_at, live_in, AreEntries}
 use Rattle.snapshot_write.specs.declared.snapshot.Snapshot.{Snapshot}
 use Rattle.snapshot_write.specs.declared.snap_fault.SnapFault.{SnapFault}
 use Rattle.snapshot_write.specs.Snapshots.{snapshot}
-use Rattle.snapshot_write.specs.Cause.{cause_of}
+use Rattle.snapshot_write.specs.Faults.{fault_of}
 use Rattle.snapshot_write.specs.Reading.{snapshot_in, answer}
-use Rattle.snapshot_write.specs.Shown.{shown}
+use Rattle.snapshot_write.specs.Shown.{snapshot_shown_to}
 use Rattle.snapshot_write.specs.Laws.{HasCounts}
 use Rattle.snapshot_write.specs.OwnPart.{IsOfPlayer, HasOwnFields, ShowPlayersThemselves}
 use Rattle.snapshot_write.proofs.Sights.{written_read}
 
-of_player : (frame : ℕ) (me : Rec) (records : List Rec) → IsOfPlayer frame me (shown frame me records)
+of_player : (frame : ℕ) (me : Rec) (records : List Rec) → IsOfPlayer frame me (snapshot_shown_to frame me records)
 of_player frame me records = record {
   frame_is = refl;
   id_is = refl;
@@ -32,12 +32,12 @@ of_player frame me records = record {
 }
 
 -- bytes that are read as a snapshot have its fields
-fields_read : (cause : Option SnapFault) (s t : Snapshot) → answer cause s ≡ Ok t → s ≡ t
+fields_read : (found : Option SnapFault) (s t : Snapshot) → answer found s ≡ Ok t → s ≡ t
 fields_read None s t read = cc
 fields_read (Some fault) s t read = absurd cc
 
 own_fields : (bytes : List ℕ) (frame : ℕ) (me : Rec) (records : List Rec) → bytes ≡ snapshot frame me records
-    → snapshot_in bytes ≡ shown frame me records → HasOwnFields frame me bytes
+    → snapshot_in bytes ≡ snapshot_shown_to frame me records → HasOwnFields frame me bytes
 own_fields bytes frame me records written read = record {
   version = rw written refl;
   frame_is = ap (λ (s : Snapshot). s.frame) read;
@@ -57,7 +57,7 @@ fields_written : (records : List (Option Rec)) (frame slot : ℕ) (me : Rec) →
 fields_written records frame slot me places entries fits small at counts =
     let bytes = snapshot frame me (live_in records) in
     own_fields bytes frame me (live_in records) refl
-    (fields_read (cause_of bytes) _ _ (written_read records frame slot me places entries fits small at counts))
+    (fields_read (fault_of bytes) _ _ (written_read records frame slot me places entries fits small at counts))
 
 pub show_players_themselves : ShowPlayersThemselves
 show_players_themselves = record { value = of_player; bytes = fields_written }

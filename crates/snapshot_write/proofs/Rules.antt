@@ -17,7 +17,7 @@ use Rattle.snapshot_write.specs.declared.snap_fault.SnapFault.{SnapFault}
 use Rattle.snapshot_write.specs.declared.snap_fault.SnapFault.TheVariants.{Short, Version, Order, Count, Long}
 use Rattle.snapshot_write.specs.Snapshots.{vector_bytes, own_bytes}
 use Rattle.snapshot_write.specs.Fields.{number_at, vector_at, count_in, length_with, blocks_in, id_in, kind_of}
-use Rattle.snapshot_write.specs.Cause.{are_rising, have_id, is_kind, has_wrong_own, has_wrong_field, has_wrong_blocks, breaks, cause_of}
+use Rattle.snapshot_write.specs.Faults.{are_rising, have_id, is_kind, has_wrong_own, has_wrong_field, has_wrong_blocks, breaks, fault_of}
 use Rattle.snapshot_write.specs.Reading.{own_in, seen_in, snapshot_in, answer, reading}
 use Rattle.snapshot_write.specs.Spelling.{status_of, block_of, spelling, IsOwn, IsSeen, AreSeen, ids_of, is_rising, IsSnapshot, Spells}
 use Rattle.snapshot_write.proofs.Fields.{AreBytesBelow, one_at, short_spelled, number_spelled, vector_spelled, kind_cell, status_cell}
@@ -39,7 +39,7 @@ not_broken true fault others e = absurd cc
 not_broken false fault others e = (refl, e)
 
 -- where there is no cause, no rule is broken
-pub keeps : (bytes : List ℕ) → cause_of bytes ≡ None → Keeps bytes
+pub keeps : (bytes : List ℕ) → fault_of bytes ≡ None → Keeps bytes
 keeps bytes none =
     let a = not_broken (breaks bytes Short) Short _ none in
     let b = not_broken (breaks bytes Version) Version _ a.1 in
@@ -240,19 +240,19 @@ pub below_are : (bytes : List ℕ) → AreBytes bytes → AreBytesBelow bytes (l
 below_are bytes all i inside = all i 0 inside
 
 -- an answer that is a snapshot
-answered_ok : (cause : Option SnapFault) (s t : Snapshot) → answer cause s ≡ Ok t → (cause ≡ None) × (s ≡ t)
+answered_ok : (found : Option SnapFault) (s t : Snapshot) → answer found s ≡ Ok t → (found ≡ None) × (s ≡ t)
 answered_ok None s t e = (refl, cc)
 answered_ok (Some fault) s t e = absurd cc
 
 -- an answer that is a fault
-answered_err : (cause : Option SnapFault) (s : Snapshot) (fault : SnapFault) → answer cause s ≡ Err fault → cause ≡ Some fault
+answered_err : (found : Option SnapFault) (s : Snapshot) (fault : SnapFault) → answer found s ≡ Err fault → found ≡ Some fault
 answered_err None s fault e = absurd cc
 answered_err (Some other) s fault e = cc
 
 -- what bytes are read as, they spell
 pub read_spells : (bytes : List ℕ) → AreBytes bytes → (s : Snapshot) → reading bytes ≡ Ok s → Spells bytes s
 read_spells bytes all s e =
-    let parts = answered_ok (cause_of bytes) (snapshot_in bytes) s e in
+    let parts = answered_ok (fault_of bytes) (snapshot_in bytes) s e in
     subst (λ (t : Snapshot). Spells bytes t) parts.1 (kept_spelled bytes (below_are bytes all) (keeps bytes parts.0))
 
 -- the same of a result
@@ -266,15 +266,15 @@ pub spelled_read : (bytes : List ℕ) (s : Snapshot) → Spells bytes s → read
 spelled_read bytes s spells = ap reading spells.spelled ∙ snapshot_again s spells.in_range
 
 -- bytes are read as a fault exactly where it is their cause
-pub read_cause : (bytes : List ℕ) (fault : SnapFault) → reading bytes ≡ Err fault → cause_of bytes ≡ Some fault
-read_cause bytes fault e = answered_err (cause_of bytes) (snapshot_in bytes) fault e
+pub read_fault : (bytes : List ℕ) (fault : SnapFault) → reading bytes ≡ Err fault → fault_of bytes ≡ Some fault
+read_fault bytes fault e = answered_err (fault_of bytes) (snapshot_in bytes) fault e
 
-pub cause_read : (bytes : List ℕ) (fault : SnapFault) → cause_of bytes ≡ Some fault → reading bytes ≡ Err fault
-cause_read bytes fault e = ap (λ (cause : Option SnapFault). answer cause (snapshot_in bytes)) e
+pub fault_read : (bytes : List ℕ) (fault : SnapFault) → fault_of bytes ≡ Some fault → reading bytes ≡ Err fault
+fault_read bytes fault e = ap (λ (found : Option SnapFault). answer found (snapshot_in bytes)) e
 
 -- bytes that spell a snapshot have no cause
-pub spelled_no_cause : (bytes : List ℕ) (s : Snapshot) → Spells bytes s → cause_of bytes ≡ None
-spelled_no_cause bytes s spells = (answered_ok (cause_of bytes) (snapshot_in bytes) s (spelled_read bytes s spells)).0
+pub spelled_no_fault : (bytes : List ℕ) (s : Snapshot) → Spells bytes s → fault_of bytes ≡ None
+spelled_no_fault bytes s spells = (answered_ok (fault_of bytes) (snapshot_in bytes) s (spelled_read bytes s spells)).0
 
 -- snapshots with one spelling are one
 pub same_spelling : (s t : Snapshot) → IsSnapshot s → IsSnapshot t → spelling s ≡ spelling t → s ≡ t

@@ -26,7 +26,7 @@ use Rattle.snapshot_write.specs.declared.snapshot.Snapshot.{Snapshot}
 use Rattle.snapshot_write.specs.Snapshots.{view_of, is_seen, seen_by, status_at, entity_bytes, own_bytes, snapshot}
 use Rattle.snapshot_write.specs.Reading.{reading}
 use Rattle.snapshot_write.specs.Spelling.{status_of, block_of, spelling, IsOwn, IsSeen, AreSeen, ids_of, is_rising, IsSnapshot}
-use Rattle.snapshot_write.specs.Shown.{is_here, shown_as, shown, IsInSight, IsShownTo}
+use Rattle.snapshot_write.specs.Shown.{is_here, shown_as, snapshot_shown_to, IsInSight, IsShownTo}
 use Rattle.snapshot_write.specs.Laws.{HasCounts}
 use Rattle.snapshot_write.proofs.InView.{few_are_seen}
 use Rattle.snapshot_write.proofs.Again.{snapshot_again}
@@ -57,7 +57,7 @@ entities_are [] = refl
 entities_are (r ∷ rs) =
     ap (λ l. l ++ flat_map entity_bytes rs) (entity_is r) ∙ ap (λ l. block_of (shown_as r) ++ l) (entities_are rs)
 
-pub snapshot_spelled : (frame : ℕ) (me : Rec) (records : List Rec) → snapshot frame me records ≡ spelling (shown frame me records)
+pub snapshot_spelled : (frame : ℕ) (me : Rec) (records : List Rec) → snapshot frame me records ≡ spelling (snapshot_shown_to frame me records)
 snapshot_spelled frame me records =
     let seen = seen_by me records in
     ap (λ l. own_bytes frame me ++ (to_le_bytes w16 (length seen) ++ l)) (entities_are seen)
@@ -193,7 +193,7 @@ own_shown me slot is counts =
     }
 
 shown_in_range : (records : List (Option Rec)) (frame slot : ℕ) (me : Rec) → length records ≡ IDS → AreEntries records → frame < 2 ^ 32
-    → slot < 64 → record_at records slot ≡ Some me → HasCounts me → IsSnapshot (shown frame me (live_in records))
+    → slot < 64 → record_at records slot ≡ Some me → HasCounts me → IsSnapshot (snapshot_shown_to frame me (live_in records))
 shown_in_range records frame slot me places entries fits small at counts =
     let entry = entries slot me at in
     let own_id = entry.own_id in
@@ -211,10 +211,10 @@ shown_in_range records frame slot me places entries fits small at counts =
 -- the snapshot of a player of a world is read as what it shows
 pub written_read : (records : List (Option Rec)) (frame slot : ℕ) (me : Rec) → length records ≡ IDS → AreEntries records → frame < 2 ^ 32
     → slot < 64 → record_at records slot ≡ Some me → HasCounts me
-    → reading (snapshot frame me (live_in records)) ≡ Ok (shown frame me (live_in records))
+    → reading (snapshot frame me (live_in records)) ≡ Ok (snapshot_shown_to frame me (live_in records))
 written_read records frame slot me places entries fits small at counts =
     ap reading (snapshot_spelled frame me (live_in records))
-    ∙ snapshot_again (shown frame me (live_in records)) (shown_in_range records frame slot me places entries fits small at counts)
+    ∙ snapshot_again (snapshot_shown_to frame me (live_in records)) (shown_in_range records frame slot me places entries fits small at counts)
 
 -- ---- it shows who is in sight
 
@@ -349,8 +349,8 @@ other_agrees records entries a b s t to other p shows same =
 pub written_out : (records : List (Option Rec)) (frame slot : ℕ) (me : Rec) (out : List ℕ) → record_at records slot ≡ Some me
     → IfSome (record_at records slot) (λ r. out ≡ snapshot frame r (live_in records))
     → length records ≡ IDS → AreEntries records → frame < 2 ^ 32 → slot < 64 → HasCounts me
-    → IfSome (record_at records slot) (λ r. reading out ≡ Ok (shown frame r (live_in records)))
+    → IfSome (record_at records slot) (λ r. reading out ≡ Ok (snapshot_shown_to frame r (live_in records)))
 written_out records frame slot me out at written places entries fits small counts =
     let here = subst (λ (place : Option Rec). IfSome place (λ r. out ≡ snapshot frame r (live_in records))) at written in
-    subst (λ (place : Option Rec). IfSome place (λ r. reading out ≡ Ok (shown frame r (live_in records)))) (sym at)
+    subst (λ (place : Option Rec). IfSome place (λ r. reading out ≡ Ok (snapshot_shown_to frame r (live_in records)))) (sym at)
     (ap reading here ∙ written_read records frame slot me places entries fits small at counts)

@@ -5,7 +5,7 @@ use Rattle.entity_recs.specs.declared.rec.Rec.{Rec}
 use Rattle.entity_recs.specs.Laws.{IsItem}
 use Rattle.world_tree.specs.Live.{record_at, live_in, AreEntries}
 use Rattle.snapshot_write.specs.declared.seen.Seen.{Seen}
-use Rattle.snapshot_write.specs.Shown.{shown}
+use Rattle.snapshot_write.specs.Shown.{snapshot_shown_to}
 
 -- what begins and ends so on an axis comes as near as this to a place, or nearer
 pub record ComesWithin (far : ℕ) (place begins ends : ℤ) : Type 0 where
@@ -41,4 +41,4 @@ pub record IsOfOneInSight (records : List (Option Rec)) (me : Rec) (s : Seen) : 
 abbrev pub ShowWhatIsWithinSight : Type 0
 ShowWhatIsWithinSight =
     (records : List (Option Rec)) (frame slot : ℕ) (me : Rec) → AreEntries records → record_at records slot ≡ Some me
-    → (s : Seen) → Contains (shown frame me (live_in records)).seen s ↔ IsOfOneInSight records me s
+    → (s : Seen) → Contains (snapshot_shown_to frame me (live_in records)).seen s ↔ IsOfOneInSight records me s

@@ -10,7 +10,7 @@ pub use Rattle.world_tree.specs.Worlds
 pub use Rattle.world_tree.specs.Queries
 pub mod Snapshots
 pub mod Fields
-pub mod Cause
+pub mod Faults
 pub mod Reading
 pub mod Spelling
 pub mod Shown

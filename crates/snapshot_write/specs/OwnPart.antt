@@ -7,7 +7,7 @@ use Rattle.world_tree.specs.Live.{record_at, live_in, AreEntries}
 use Rattle.snapshot_write.specs.declared.snapshot.Snapshot.{Snapshot}
 use Rattle.snapshot_write.specs.Fields.{number_at, vector_at}
 use Rattle.snapshot_write.specs.Snapshots.{snapshot}
-use Rattle.snapshot_write.specs.Shown.{shown}
+use Rattle.snapshot_write.specs.Shown.{snapshot_shown_to}
 use Rattle.snapshot_write.specs.Laws.{HasCounts}
 
 -- the snapshot is of this frame, and its own record is the player's with state 0
@@ -42,7 +42,7 @@ pub record HasOwnFields (frame : ℕ) (me : Rec) (bytes : List ℕ) : Type 0 whe
 -- each player is shown the frame and itself as it is, but for its state: as a value, and in the bytes of a player of a
 -- world
 pub record ShowPlayersThemselves : Type 0 where
-  pub value : (frame : ℕ) (me : Rec) (records : List Rec) → IsOfPlayer frame me (shown frame me records)
+  pub value : (frame : ℕ) (me : Rec) (records : List Rec) → IsOfPlayer frame me (snapshot_shown_to frame me records)
   pub bytes : (records : List (Option Rec)) (frame slot : ℕ) (me : Rec) → length records ≡ IDS → AreEntries records
       → frame < 2 ^ 32 → slot < 64 → record_at records slot ≡ Some me → HasCounts me
       → HasOwnFields frame me (snapshot frame me (live_in records))

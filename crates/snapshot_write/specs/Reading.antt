@@ -8,7 +8,7 @@ use Rattle.snapshot_write.specs.declared.seen.Seen.{Seen}
 use Rattle.snapshot_write.specs.declared.snapshot.Snapshot.{Snapshot}
 use Rattle.snapshot_write.specs.declared.snap_fault.SnapFault.{SnapFault}
 use Rattle.snapshot_write.specs.Fields.{number_at, vector_at, blocks_in, id_in, kind_of}
-use Rattle.snapshot_write.specs.Cause.{cause_of}
+use Rattle.snapshot_write.specs.Faults.{fault_of}
 
 -- the player's own record: its body is a player's and its state 0, which aren't in the bytes
 abbrev pub own_in : List ℕ → Rec
@@ -40,11 +40,11 @@ seen_in block = record {
 abbrev pub snapshot_in : List ℕ → Snapshot
 snapshot_in bytes = record { frame = number_at bytes 1; own = own_in bytes; seen = map seen_in (blocks_in bytes) }
 
--- the cause where there is one, and else the snapshot
+-- the fault where there is one, and else the snapshot
 abbrev pub answer : Option SnapFault → Snapshot → Result Snapshot SnapFault
 answer None s = Ok s
 answer (Some fault) s = Err fault
 
 -- what the bytes are read as
 abbrev pub reading : List ℕ → Result Snapshot SnapFault
-reading bytes = answer (cause_of bytes) (snapshot_in bytes)
+reading bytes = answer (fault_of bytes) (snapshot_in bytes)

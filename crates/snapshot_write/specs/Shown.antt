@@ -22,8 +22,8 @@ abbrev pub shown_as : Rec → Seen
 shown_as r = record { id = r.id; kind = r.kind; here = is_here r.kind r.state; origin = r.origin }
 
 -- what a player is shown in a frame, of all live records: its own record, but for its state, and what it sees
-abbrev pub shown : ℕ → Rec → List Rec → Snapshot
-shown frame me records = record { frame = frame; own = with_state me 0; seen = map shown_as (seen_by me records) }
+abbrev pub snapshot_shown_to : ℕ → Rec → List Rec → Snapshot
+snapshot_shown_to frame me records = record { frame = frame; own = with_state me 0; seen = map shown_as (seen_by me records) }
 
 -- a live record other than the player's own touches its view, and this is shown of it
 pub record IsInSight (records : List (Option Rec)) (me : Rec) (s : Seen) : Type 0 where
@@ -37,4 +37,4 @@ pub record IsInSight (records : List (Option Rec)) (me : Rec) (s : Seen) : Type 
 pub record IsShownTo (records : List (Option Rec)) (slot : ℕ) (s : Snapshot) : Type 0 where
   pub me : Rec
   pub live : record_at records slot ≡ Some me
-  pub is : s ≡ shown s.frame me (live_in records)
+  pub is : s ≡ snapshot_shown_to s.frame me (live_in records)

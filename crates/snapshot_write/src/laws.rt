@@ -3,8 +3,8 @@ ghost use Rattle.snapshot_write.specs.InSight.{ShowWhatIsWithinSight};
 ghost use Rattle.snapshot_write.specs.OwnPart.{ShowPlayersThemselves};
 
 /// Bytes break no rule of the format exactly where they spell some snapshot.
-pub fn no_cause_where_spelled()
-    ensures { laws.NoCauseWhereSpelled }
+pub fn no_fault_where_spelled()
+    ensures { laws.NoFaultWhereSpelled }
 {}
 
 /// A snapshot has one spelling, and no two snapshots have the same.
@@ -41,8 +41,8 @@ pub fn snapshots_show_players_themselves()
 {}
 
 /// Two players of a world see a third in one place, and each other where they see themselves.
-pub fn snapshots_agree_on_places()
-    ensures { laws.AgreeOnPlaces }
+pub fn snapshots_agree_on_origins()
+    ensures { laws.AgreeOnOrigins }
 {}
 
 /// A list of bytes has room for 8,219, and a list of entities for 511.

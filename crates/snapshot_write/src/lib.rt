@@ -2,8 +2,8 @@
 #![tactic(auto)]
 
 pub use laws::{
-    limits_are_known, no_cause_where_spelled, one_spelling, read_where_spelled,
-    snapshots_agree_on_places, snapshots_show_players_themselves,
+    limits_are_known, no_fault_where_spelled, one_spelling, read_where_spelled,
+    snapshots_agree_on_origins, snapshots_show_players_themselves,
     snapshots_show_what_is_within_sight, snapshots_show_who_is_in_sight,
     written_snapshots_are_read,
 };

@@ -6,7 +6,7 @@ ghost use Rattle.snapshot_write.specs.declared.snap_fault.SnapFault.{SnapFault};
 ghost use Rattle.snapshot_write.specs.declared.snap_fault.SnapFault.TheVariants.{Count, Long};
 ghost use Rattle.snapshot_write.specs.Spelling.{Spells};
 ghost use Rattle.snapshot_write.specs.Fields as fields;
-ghost use Rattle.snapshot_write.specs.Cause as causes;
+ghost use Rattle.snapshot_write.specs.Faults as faults;
 ghost use Rattle.snapshot_write.specs.Reading.{reading, answer, snapshot_in, own_in, seen_in};
 
 use crate::reply_buf::{BLOCK, HEAD};
@@ -73,7 +73,7 @@ fn id_of(block: &[u8; BLOCK]) -> u16
 
 /// Whether the id of each block is below that of the next.
 fn are_rising(blocks: &[[u8; BLOCK]]) -> bool
-    ensures { result ≡ causes.are_rising blocks.now }
+    ensures { result ≡ faults.are_rising blocks.now }
 {
     let next = blocks.iter().skip(1);
     blocks.iter().zip(next).all(|(a, b)| id_of(a) < id_of(b))
@@ -81,7 +81,7 @@ fn are_rising(blocks: &[[u8; BLOCK]]) -> bool
 
 /// Whether a block has this id.
 fn have_id(blocks: &[[u8; BLOCK]], id: u16) -> bool
-    ensures { result ≡ causes.have_id id blocks.now }
+    ensures { result ≡ faults.have_id id blocks.now }
 {
     blocks.iter().any(|block| id_of(block) == id)
 }
@@ -89,7 +89,7 @@ fn have_id(blocks: &[[u8; BLOCK]], id: u16) -> bool
 /// The player's own record, if each of its fields is in range.
 fn read_own(bytes: &[u8]) -> Option<Rec>
     requires { 43 ≤ length bytes.now }
-    ensures { result ≡ (if causes.has_wrong_own bytes.now then None else Some (own_in bytes.now)) }
+    ensures { result ≡ (if faults.has_wrong_own bytes.now then None else Some (own_in bytes.now)) }
 {
     let [slot, flags, ammo, carry] = [bytes[5], bytes[30], bytes[31], bytes[32]];
     if slot > 63 || flags > 3 || ammo > 100 || carry > 8 {
@@ -113,7 +113,7 @@ fn read_own(bytes: &[u8]) -> Option<Rec>
 
 /// The kind with a number.
 fn kind_of(number: u8) -> Option<Kind>
-    ensures { result ≡ (if causes.is_kind number then Some (fields.kind_of number) else None) }
+    ensures { result ≡ (if faults.is_kind number then Some (fields.kind_of number) else None) }
 {
     match number {
         0 => Some(Kind::Player),
@@ -128,7 +128,7 @@ fn kind_of(number: u8) -> Option<Kind>
 
 /// The entity of a block, if each of its fields is in range. Only an item can be taken.
 fn read_block(block: &[u8; BLOCK]) -> Option<Seen>
-    ensures { result ≡ (if causes.has_wrong_field block.now then None else Some (seen_in block.now)) }
+    ensures { result ≡ (if faults.has_wrong_field block.now then None else Some (seen_in block.now)) }
 {
     let id = id_of(block);
     let kind = kind_of(block[2])?;
@@ -146,7 +146,7 @@ fn read_block(block: &[u8; BLOCK]) -> Option<Seen>
 
 /// The entities of the blocks, if there are at most [`MOST_SEEN`](crate::MOST_SEEN) and each of their fields is in range.
 fn read_seen(blocks: &[[u8; BLOCK]]) -> Option<SeenList>
-    ensures { result ≡ (if causes.has_wrong_blocks blocks.now then None else Some (map seen_in blocks.now)) }
+    ensures { result ≡ (if faults.has_wrong_blocks blocks.now then None else Some (map seen_in blocks.now)) }
 {
     let mut seen = SeenList::new();
     for block in blocks {
@@ -164,7 +164,7 @@ fn read_fields(bytes: &[u8], blocks: &[[u8; BLOCK]], end: usize) -> Result<Snaps
     requires head { 43 ≤ length bytes.now }
     requires blocks { blocks.now ≡ fields.blocks_in bytes.now }
     requires end { end ≡ fields.length_with (fields.count_in bytes.now) }
-    ensures { result ≡ answer (find (causes.breaks bytes.now) (Count ∷ Long ∷ [])) (snapshot_in bytes.now) }
+    ensures { result ≡ answer (find (faults.breaks bytes.now) (Count ∷ Long ∷ [])) (snapshot_in bytes.now) }
 {
     let own = read_own(bytes).ok_or(SnapFault::Count)?;
     let seen = read_seen(blocks).ok_or(SnapFault::Count)?;
@@ -205,8 +205,8 @@ pub fn read_snapshot(bytes: &[u8]) -> Result<Snapshot, SnapFault>
     // What is read is what the bytes spell, and what they spell is read.
     ensures found { IfOk result (λ s. Spells bytes.now s) }
     ensures only { (s : Snapshot) → Spells bytes.now s → result ≡ Ok s }
-    // Each fault comes exactly where it is the cause.
-    ensures cause { (fault : SnapFault) → (result ≡ Err fault) ↔ (causes.cause_of bytes.now ≡ Some fault) }
+    // Each fault comes exactly where its rule is the first that is broken.
+    ensures fault { (fault : SnapFault) → (result ≡ Err fault) ↔ (faults.fault_of bytes.now ≡ Some fault) }
     // The same as a function of the bytes.
     ensures answer { result ≡ reading bytes.now }
 {

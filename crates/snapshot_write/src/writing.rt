@@ -3,7 +3,7 @@ ghost use Rattle.arena_geo.specs.Vectors.{IsNear};
 ghost use Rattle.world_tree.specs.Live.{live_in};
 ghost use Rattle.world_tree.specs.Worlds.{record_of};
 ghost use Rattle.snapshot_write.specs.Snapshots as spec;
-ghost use Rattle.snapshot_write.specs.Shown.{shown};
+ghost use Rattle.snapshot_write.specs.Shown.{snapshot_shown_to};
 ghost use Rattle.snapshot_write.specs.Reading.{reading};
 
 use crate::reply_buf::{REPLY_ROOM, ReplyBuf};
@@ -26,7 +26,7 @@ fn view(origin: Vec3) -> Aabb
     requires { IsNear 1048576 origin }
     ensures { result ≡ spec.view_of origin }
 {
-    Aabb::between(origin - SIGHT, origin + SIGHT)
+    Aabb::from_corners(origin - SIGHT, origin + SIGHT)
 }
 
 /// 0 for an item that was taken, and else 1.
@@ -163,7 +163,7 @@ pub fn write_snapshot(world: &World, frame: u32, slot: u8, out: &mut ReplyBuf)
         (λ me. out.new ≡ spec.snapshot frame me (live_in world.now.records)) }
     // What is written for a player is read as the frame, its own record and what it sees.
     ensures read_again { slot < 64 → IfSome (record_of world.now slot)
-        (λ me. reading out.new ≡ Ok (shown frame me (live_in world.now.records))) }
+        (λ me. reading out.new ≡ Ok (snapshot_shown_to frame me (live_in world.now.records))) }
 {
     let id = u16::from(slot);
     let me = world.get(id).unwrap();

@@ -9,8 +9,8 @@ use Rattle.std.proofs.lemmas.Int.{ints, clamps}
 use Rattle.arena_geo.specs.declared.vec3.Vec3.{Vec3}
 use Rattle.arena_geo.specs.Roots.{IsRoot}
 use Rattle.arena_geo.proofs.Squares.{next_square}
-use Rattle.speed_rules.specs.Measures.{scaled, dot_of}
-use Rattle.speed_rules.specs.Rules.{pushed}
+use Rattle.speed_rules.specs.Measures.{scaled_part, dot_of}
+use Rattle.speed_rules.specs.Rules.{velocity_with_gain}
 use Rattle.speed_rules.proofs.Shares.{abs-scaled, scaled_stays_positive, scaled_stays_negative}
 use Rattle.speed_rules.specs.Laws.{StopsAtCap, ReachesCap}
 use Rattle.speed_rules.proofs.Gaining.{above_quotient, le_from_times, legs_le}
@@ -24,9 +24,9 @@ times_same_side (pos (suc m)) (negsuc n) above below = absurd (omega (arith, int
 times_same_side (negsuc m) (pos n) above below = absurd (omega (arith, ints, above (omega (arith, ints))))
 times_same_side (negsuc m) (negsuc n) above below = refl
 
-scaled_times : (x : ℤ) (gain whole : ℕ) → scaled x (pos gain) whole *ℤ x ≡ pos (unsigned_abs x * gain / whole * unsigned_abs x)
+scaled_times : (x : ℤ) (gain whole : ℕ) → scaled_part x (pos gain) whole *ℤ x ≡ pos (unsigned_abs x * gain / whole * unsigned_abs x)
 scaled_times x gain whole =
-    times_same_side (scaled x (pos gain) whole) x (scaled_stays_positive x gain whole) (scaled_stays_negative x gain whole)
+    times_same_side (scaled_part x (pos gain) whole) x (scaled_stays_positive x gain whole) (scaled_stays_negative x gain whole)
     ∙ ap (λ n. pos (n * unsigned_abs x)) (abs-scaled x (pos gain) whole)
 
 pub times_sum : (a s x : ℤ) → (a +ℤ s) *ℤ x ≡ a *ℤ x +ℤ s *ℤ x
@@ -41,7 +41,7 @@ dot_by_parts a b s t x y m n one other = omega (arith, ints, times_sum a s x, ti
 abbrev pub added : ℕ → ℕ → ℕ → ℕ → ℕ
 added x y gain len = x * gain / len * x + y * gain / len * y
 
-pub dot_pushed : (v : Vec3) (x y : ℤ) (len gain : ℕ) → dot_of (pushed v x y len (pos gain)) x y ≡ dot_of v x y +ℤ pos (added (unsigned_abs x) (unsigned_abs y) gain len)
+pub dot_pushed : (v : Vec3) (x y : ℤ) (len gain : ℕ) → dot_of (velocity_with_gain v x y len (pos gain)) x y ≡ dot_of v x y +ℤ pos (added (unsigned_abs x) (unsigned_abs y) gain len)
 dot_pushed v x y len gain = dot_by_parts v.x v.y _ _ x y _ _ (scaled_times x gain len) (scaled_times y gain len)
 
 -- one axis adds at most its part of the gain, and loses less than its part of the wish

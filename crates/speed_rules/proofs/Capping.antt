@@ -10,7 +10,7 @@ use Rattle.arena_geo.specs.Roots.{IsRoot}
 use Rattle.arena_geo.proofs.Squares.{root_is_greatest}
 use Rattle.speed_rules.specs.declared.constants.TheConstants.{UNIT, MAX_SPEED}
 use Rattle.speed_rules.specs.Measures.{dot_of, part_along}
-use Rattle.speed_rules.specs.Rules.{cap_of, missing_of, greatest_gain, pushed, accelerated_toward}
+use Rattle.speed_rules.specs.Rules.{cap_of, missing_of, greatest_gain, velocity_with_gain, accelerated_toward}
 use Rattle.speed_rules.specs.Wishes.{wish_length}
 use Rattle.speed_rules.specs.Laws.{StopsAtCap, ReachesCap, AccelerationStopsAtTheCap, AccelerationReachesTheCap, AccelerationActsBelowTheCap}
 use Rattle.speed_rules.proofs.Pushing.{gain_le, nothing_missing, something_missing}
@@ -43,12 +43,12 @@ greatest_gain_acts len ms least long =
 -- ---- a wish (x, y) of this length
 module _ (x y : ℤ) (len : ℕ) (root : IsRoot (unsigned_abs x * unsigned_abs x + unsigned_abs y * unsigned_abs y) len) (some : 0 < len) where
   -- a velocity that is another with a gain along the wish
-  pushed_gains : (v w : Vec3) (gain : ℕ) → pushed v x y len (pos gain) ≡ w → Gains gain len (added (unsigned_abs x) (unsigned_abs y) gain len) (part_along v x y len) (part_along w x y len)
+  pushed_gains : (v w : Vec3) (gain : ℕ) → velocity_with_gain v x y len (pos gain) ≡ w → Gains gain len (added (unsigned_abs x) (unsigned_abs y) gain len) (part_along v x y len) (part_along w x y len)
   pushed_gains v w gain is =
       let P : Vec3 → Type 0 = λ u. Gains gain len (added (unsigned_abs x) (unsigned_abs y) gain len) (part_along v x y len) (part_along u x y len) in
       subst P is (rw (dot_pushed v x y len gain) (quotient_gains (dot_of v x y) (added (unsigned_abs x) (unsigned_abs y) gain len) gain len some))
 
-  pushed_dot : (v w : Vec3) (gain : ℕ) → pushed v x y len (pos gain) ≡ w → dot_of w x y ≡ dot_of v x y +ℤ pos (added (unsigned_abs x) (unsigned_abs y) gain len)
+  pushed_dot : (v w : Vec3) (gain : ℕ) → velocity_with_gain v x y len (pos gain) ≡ w → dot_of w x y ≡ dot_of v x y +ℤ pos (added (unsigned_abs x) (unsigned_abs y) gain len)
   pushed_dot v w gain is = ap (λ (u : Vec3). dot_of u x y) (sym is) ∙ dot_pushed v x y len gain
 
   module _ (v : Vec3) (ms : ℕ) (on_ground : Bool) where
@@ -66,10 +66,10 @@ module _ (x y : ℤ) (len : ℕ) (root : IsRoot (unsigned_abs x * unsigned_abs x
     unfolding gain
     gain_is lacks = gain_is_pos (greatest_gain len ms) missing lacks
 
-    pushed_is : pos 0 <ℤ missing → pushed v x y len (pos gain) ≡ after
+    pushed_is : pos 0 <ℤ missing → velocity_with_gain v x y len (pos gain) ≡ after
     unfolding missing gain after
     pushed_is lacks =
-        ap (pushed v x y len) (sym (gain_is_pos (greatest_gain len ms) missing lacks)) ∙ something_missing len v x y ms on_ground some lacks
+        ap (velocity_with_gain v x y len) (sym (gain_is_pos (greatest_gain len ms) missing lacks)) ∙ something_missing len v x y ms on_ground some lacks
 
     gain_is_short : pos 0 <ℤ missing → ms ≤ 50 → 2 * gain ≤ len
     unfolding gain

@@ -9,8 +9,8 @@ use Rattle.std.proofs.lemmas.Int.{ints, by_lt_z}
 use Rattle.arena_geo.specs.declared.vec3.Vec3.{Vec3}
 use Rattle.arena_geo.proofs.Quotients.{int_div-neg}
 use Rattle.speed_rules.specs.declared.constants.TheConstants.{UNIT}
-use Rattle.speed_rules.specs.Measures.{scaled, dot_of, cross_of}
-use Rattle.speed_rules.specs.Rules.{missing_of, greatest_gain, pushed, accelerated_toward}
+use Rattle.speed_rules.specs.Measures.{scaled_part, dot_of, cross_of}
+use Rattle.speed_rules.specs.Rules.{missing_of, greatest_gain, velocity_with_gain, accelerated_toward}
 use Rattle.speed_rules.specs.Wishes.{wish_length}
 use Rattle.speed_rules.specs.Laws.{AccelerationActsAlongTheWish}
 use Rattle.speed_rules.proofs.Shares.{below_from_times, reaches_x, reaches_y}
@@ -54,7 +54,7 @@ near_below p q len one other = omega (arith, ints)
 
 -- so do they with their signs
 parts_turn : (x y : ℤ) (gain len : ℕ) → 0 < len → unsigned_abs x ≤ len → unsigned_abs y ≤ len
-    → unsigned_abs (scaled x (pos gain) len *ℤ y -ℤ scaled y (pos gain) len *ℤ x) < len
+    → unsigned_abs (scaled_part x (pos gain) len *ℤ y -ℤ scaled_part y (pos gain) len *ℤ x) < len
 parts_turn (pos m) (pos n) gain len some x_within y_within =
     near_above _ _ len (shares_turn m n gain len some x_within) (shares_turn n m gain len some y_within)
 parts_turn (pos m) (negsuc n) gain len some x_within y_within =
@@ -80,10 +80,10 @@ more_along : (old new : ℤ) (n : ℕ) → new ≡ old +ℤ pos n → old ≤ℤ
 more_along old new n is = omega (arith, ints)
 
 pushed_along : (x y : ℤ) (len : ℕ) (v : Vec3) (gain : ℕ) → 0 < len → unsigned_abs x ≤ len → unsigned_abs y ≤ len
-    → IsAlong x y len v (pushed v x y len (pos gain))
+    → IsAlong x y len v (velocity_with_gain v x y len (pos gain))
 pushed_along x y len v gain some x_within y_within = record {
   along = more_along _ _ (added (unsigned_abs x) (unsigned_abs y) gain len) (dot_pushed v x y len gain);
-  across = rw (cross_sum v.x v.y (scaled x (pos gain) len) (scaled y (pos gain) len) x y) (parts_turn x y gain len some x_within y_within);
+  across = rw (cross_sum v.x v.y (scaled_part x (pos gain) len) (scaled_part y (pos gain) len) x y) (parts_turn x y gain len some x_within y_within);
 }
 
 -- ---- the law
@@ -94,7 +94,7 @@ toward_along x y len v ms on_ground some x_within y_within =
     let allowed = greatest_gain len ms in
     by_lt_z (pos 0) missing
     (λ lacks. subst (IsAlong x y len v)
-    (ap (pushed v x y len) (sym (gain_is_pos allowed missing lacks)) ∙ something_missing len v x y ms on_ground some lacks)
+    (ap (velocity_with_gain v x y len) (sym (gain_is_pos allowed missing lacks)) ∙ something_missing len v x y ms on_ground some lacks)
     (pushed_along x y len v (unsigned_abs (int_min (pos allowed) missing)) some x_within y_within))
     (λ none. subst (IsAlong x y len v) (nothing_missing len v x y ms on_ground none) (rests_along x y len v some))
 

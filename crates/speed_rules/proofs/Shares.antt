@@ -8,19 +8,19 @@ use Rattle.std.proofs.lemmas.Int.{ints, to_z-of_z, unsigned_abs-mul, quot_is, qu
 use Rattle.arena_geo.specs.Roots.{IsRoot, root_of}
 use Rattle.arena_geo.proofs.Squares.{le_from_square, root_is_greatest}
 use Rattle.arena_geo.proofs.Quotients.{abs-int_div}
-use Rattle.speed_rules.specs.Measures.{scaled}
+use Rattle.speed_rules.specs.Measures.{scaled_part}
 
-pub abs-scaled : (part by : ℤ) (whole : ℕ) → unsigned_abs (scaled part by whole) ≡ unsigned_abs part * unsigned_abs by / whole
+pub abs-scaled : (part by : ℤ) (whole : ℕ) → unsigned_abs (scaled_part part by whole) ≡ unsigned_abs part * unsigned_abs by / whole
 abs-scaled part by whole = abs-int_div (part *ℤ by) whole ∙ ap (λ n. n / whole) (unsigned_abs-mul part by)
 
 -- a share of what is shared out is no more than it
 share_le : (part by whole : ℕ) → 0 < whole → part ≤ whole → part * by / whole ≤ by
 share_le part by whole some is_part = omega (arith, div_below (part * by) whole (by + 1) some (omega (arith, mul-le part by whole by is_part (omega arith))))
 
-pub scaled_le_by : (part by : ℤ) (whole : ℕ) → 0 < whole → unsigned_abs part ≤ whole → unsigned_abs (scaled part by whole) ≤ unsigned_abs by
+pub scaled_le_by : (part by : ℤ) (whole : ℕ) → 0 < whole → unsigned_abs part ≤ whole → unsigned_abs (scaled_part part by whole) ≤ unsigned_abs by
 scaled_le_by part by whole some is_part = rw abs-scaled (share_le _ _ whole some is_part)
 
-pub scaled_le_part : (part by : ℤ) (whole : ℕ) → 0 < whole → unsigned_abs by ≤ whole → unsigned_abs (scaled part by whole) ≤ unsigned_abs part
+pub scaled_le_part : (part by : ℤ) (whole : ℕ) → 0 < whole → unsigned_abs by ≤ whole → unsigned_abs (scaled_part part by whole) ≤ unsigned_abs part
 scaled_le_part part by whole some is_part =
     let turned : unsigned_abs by * unsigned_abs part / whole ≤ unsigned_abs part = share_le _ _ whole some is_part in
     let same : unsigned_abs part * unsigned_abs by ≡ unsigned_abs by * unsigned_abs part = omega arith in
@@ -47,10 +47,10 @@ times_stays_negative (pos zero) by negative = omega (arith, ints)
 times_stays_negative (pos (suc n)) by negative = absurd (omega (arith, ints))
 times_stays_negative (negsuc n) by negative = neg_is_negative (suc n * by)
 
-pub scaled_stays_positive : (part : ℤ) (by whole : ℕ) → pos 0 ≤ℤ part → pos 0 ≤ℤ scaled part (pos by) whole
+pub scaled_stays_positive : (part : ℤ) (by whole : ℕ) → pos 0 ≤ℤ part → pos 0 ≤ℤ scaled_part part (pos by) whole
 scaled_stays_positive part by whole positive = int_div_stays_positive _ whole (times_stays_positive part by positive)
 
-pub scaled_stays_negative : (part : ℤ) (by whole : ℕ) → part ≤ℤ pos 0 → scaled part (pos by) whole ≤ℤ pos 0
+pub scaled_stays_negative : (part : ℤ) (by whole : ℕ) → part ≤ℤ pos 0 → scaled_part part (pos by) whole ≤ℤ pos 0
 scaled_stays_negative part by whole negative = int_div_stays_negative _ whole (times_stays_negative part by negative)
 
 -- ---- what the code computes, in its types
@@ -75,9 +75,9 @@ pub quotient_le : (a : ℤ) (d : ℕ) → unsigned_abs (int_div a (pos d)) ≤ u
 quotient_le a d = rw abs-int_div (omega (arith, div-le_self (unsigned_abs a) d))
 
 -- a share of a positive number fits where the number does
-pub scaled_fits : (part by : ℤ) (whole : ℕ) → 0 < whole → unsigned_abs part ≤ whole → pos 0 ≤ℤ by → FitsSigned w32 by → FitsSigned w32 (scaled part by whole)
+pub scaled_fits : (part by : ℤ) (whole : ℕ) → 0 < whole → unsigned_abs part ≤ whole → pos 0 ≤ℤ by → FitsSigned w32 by → FitsSigned w32 (scaled_part part by whole)
 scaled_fits part by whole some is_part positive fits =
-    let least : unsigned_abs (scaled part by whole) ≤ unsigned_abs by = scaled_le_by part by whole some is_part in
+    let least : unsigned_abs (scaled_part part by whole) ≤ unsigned_abs by = scaled_le_by part by whole some is_part in
     let small : unsigned_abs by < 2 ^ 31 = omega (arith, ints) in
     fits_signed_from_abs w32 _ (omega arith)
 

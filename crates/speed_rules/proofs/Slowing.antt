@@ -9,20 +9,20 @@ use Rattle.arena_geo.specs.declared.vec3.Vec3.{Vec3}
 use Rattle.arena_geo.proofs.Squares.{le_from_square, next_square, root_is_greatest}
 use Rattle.arena_geo.proofs.Vectors.{same_parts}
 use Rattle.speed_rules.specs.declared.constants.TheConstants.{STOP_SPEED, FRICTION, SECOND}
-use Rattle.speed_rules.specs.Measures.{length_of, speed_of, scaled}
-use Rattle.speed_rules.specs.Rules.{slowed, friction_at, friction_of}
+use Rattle.speed_rules.specs.Measures.{length_of, speed_of, scaled_part}
+use Rattle.speed_rules.specs.Rules.{speed_after_friction, friction_at, friction_of}
 use Rattle.speed_rules.specs.Changes.{IsShortened, Shortens, IsStill}
 use Rattle.speed_rules.specs.Laws.{FrictionShortens, FrictionSlows, FrictionStops}
 use Rattle.speed_rules.proofs.Gaining.{above_quotient, le_from_times, legs_le}
 use Rattle.speed_rules.proofs.Shares.{abs-scaled, scaled_le_part, scaled_stays_positive, scaled_stays_negative, reaches_x, reaches_y, shares_are_short}
 
-pub slowed_le : (ms speed : ℕ) → slowed ms speed ≤ speed
+pub slowed_le : (ms speed : ℕ) → speed_after_friction ms speed ≤ speed
 slowed_le ms speed = omega arith
 
 is_same : (part : ℤ) → IsShortened part part
 is_same part = record { no_longer = omega arith; stays_positive = λ h. h; stays_negative = λ h. h }
 
-share_is_shortened : (part : ℤ) (left whole : ℕ) → 0 < whole → left ≤ whole → IsShortened part (scaled part (pos left) whole)
+share_is_shortened : (part : ℤ) (left whole : ℕ) → 0 < whole → left ≤ whole → IsShortened part (scaled_part part (pos left) whole)
 share_is_shortened part left whole some less = record {
   no_longer = scaled_le_part part (pos left) whole some less;
   stays_positive = scaled_stays_positive part left whole;
@@ -32,8 +32,8 @@ share_is_shortened part left whole some less = record {
 friction_at_shortens : (speed : ℕ) (v : Vec3) (ms : ℕ) → Shortens v (friction_at speed v ms)
 friction_at_shortens zero v ms = record { x = is_same v.x; y = is_same v.y; z = refl }
 friction_at_shortens (suc n) v ms = record {
-  x = share_is_shortened v.x (slowed ms (suc n)) (suc n) (omega arith) (slowed_le ms (suc n));
-  y = share_is_shortened v.y (slowed ms (suc n)) (suc n) (omega arith) (slowed_le ms (suc n));
+  x = share_is_shortened v.x (speed_after_friction ms (suc n)) (suc n) (omega arith) (slowed_le ms (suc n));
+  y = share_is_shortened v.y (speed_after_friction ms (suc n)) (suc n) (omega arith) (slowed_le ms (suc n));
   z = refl;
 }
 
@@ -41,15 +41,15 @@ pub friction_shortens : FrictionShortens
 friction_shortens v ms = friction_at_shortens (speed_of v) v ms
 
 -- what has the parts of a velocity after friction is that velocity
-friction_at_is : (speed : ℕ) (v r : Vec3) (ms : ℕ) → 0 < speed → r.x ≡ scaled v.x (pos (slowed ms speed)) speed → r.y ≡ scaled v.y (pos (slowed ms speed)) speed → r.z ≡ v.z → r ≡ friction_at speed v ms
+friction_at_is : (speed : ℕ) (v r : Vec3) (ms : ℕ) → 0 < speed → r.x ≡ scaled_part v.x (pos (speed_after_friction ms speed)) speed → r.y ≡ scaled_part v.y (pos (speed_after_friction ms speed)) speed → r.z ≡ v.z → r ≡ friction_at speed v ms
 friction_at_is zero v r ms some x y z = absurd (omega arith)
 friction_at_is (suc n) v r ms some x y z = same_parts x y z
 
-pub friction_is : (speed : ℕ) (v r : Vec3) (ms : ℕ) → speed ≡ speed_of v → 0 < speed → r.x ≡ scaled v.x (pos (slowed ms speed)) speed → r.y ≡ scaled v.y (pos (slowed ms speed)) speed → r.z ≡ v.z → r ≡ friction_of v ms
+pub friction_is : (speed : ℕ) (v r : Vec3) (ms : ℕ) → speed ≡ speed_of v → 0 < speed → r.x ≡ scaled_part v.x (pos (speed_after_friction ms speed)) speed → r.y ≡ scaled_part v.y (pos (speed_after_friction ms speed)) speed → r.z ≡ v.z → r ≡ friction_of v ms
 friction_is speed v r ms is some x y z = friction_at_is speed v r ms some x y z ∙ ap (λ n. friction_at n v ms) is
 
 -- a share times the whole is no more than the part times what is left
-share_le_part : (part : ℤ) (left whole : ℕ) → unsigned_abs (scaled part (pos left) whole) * whole ≤ unsigned_abs part * left
+share_le_part : (part : ℤ) (left whole : ℕ) → unsigned_abs (scaled_part part (pos left) whole) * whole ≤ unsigned_abs part * left
 share_le_part part left whole = rw abs-scaled (div-mul-le_self (unsigned_abs part * left) whole)
 
 length_le : (x y : ℤ) (left : ℕ) → unsigned_abs x * unsigned_abs x + unsigned_abs y * unsigned_abs y < (left + 1) * (left + 1) → length_of x y ≤ left
@@ -57,11 +57,11 @@ length_le x y left short =
     let square = (root_is_greatest (unsigned_abs x * unsigned_abs x + unsigned_abs y * unsigned_abs y)).square in
     le_from_square _ left (omega (arith, square))
 
-friction_at_slows : (speed : ℕ) (v : Vec3) (ms : ℕ) → unsigned_abs v.x * unsigned_abs v.x + unsigned_abs v.y * unsigned_abs v.y < (speed + 1) * (speed + 1) → speed_of (friction_at speed v ms) ≤ slowed ms speed
+friction_at_slows : (speed : ℕ) (v : Vec3) (ms : ℕ) → unsigned_abs v.x * unsigned_abs v.x + unsigned_abs v.y * unsigned_abs v.y < (speed + 1) * (speed + 1) → speed_of (friction_at speed v ms) ≤ speed_after_friction ms speed
 friction_at_slows zero v ms short = omega (arith, length_le v.x v.y 0 short)
 friction_at_slows (suc n) v ms short =
-    let left = slowed ms (suc n) in
-    length_le (scaled v.x (pos left) (suc n)) (scaled v.y (pos left) (suc n)) left (shares_are_short (unsigned_abs v.x) (unsigned_abs v.y) left (suc n) _ _ (share_le_part v.x left (suc n)) (share_le_part v.y left (suc n)) short (slowed_le ms (suc n)) (omega arith))
+    let left = speed_after_friction ms (suc n) in
+    length_le (scaled_part v.x (pos left) (suc n)) (scaled_part v.y (pos left) (suc n)) left (shares_are_short (unsigned_abs v.x) (unsigned_abs v.y) left (suc n) _ _ (share_le_part v.x left (suc n)) (share_le_part v.y left (suc n)) short (slowed_le ms (suc n)) (omega arith))
 
 -- friction takes at least 102 in a move
 drop_le : (ms speed : ℕ) → 1 ≤ ms → 102 ≤ ms * max speed STOP_SPEED * FRICTION / SECOND
@@ -69,7 +69,7 @@ drop_le ms speed least =
     let product : 1 * 25600 ≤ ms * max speed 25600 = mul-le 1 25600 ms (max speed 25600) least (omega arith) in
     le-div 102 _ 1000 (omega arith) (omega arith)
 
-pub slowed_by : (ms speed : ℕ) → 1 ≤ ms → slowed ms speed ≤ speed - 102
+pub slowed_by : (ms speed : ℕ) → 1 ≤ ms → speed_after_friction ms speed ≤ speed - 102
 slowed_by ms speed least = omega (arith, drop_le ms speed least)
 
 -- two legs of which each grows by 1 grow by at most 2 together
@@ -79,7 +79,7 @@ legs_grow_by_2 p q left short =
     omega arith
 
 -- a share with less than 1 more is all that it is a share of
-share_lost : (part : ℤ) (left whole : ℕ) → 0 < whole → unsigned_abs part * left ≤ (unsigned_abs (scaled part (pos left) whole) + 1) * whole
+share_lost : (part : ℤ) (left whole : ℕ) → 0 < whole → unsigned_abs part * left ≤ (unsigned_abs (scaled_part part (pos left) whole) + 1) * whole
 share_lost part left whole some = rw abs-scaled (omega (arith, above_quotient (unsigned_abs part * left) whole some))
 
 -- the legs p and q, where a length of two legs x and y is shared out to left, but for less than 1 on each
@@ -96,11 +96,11 @@ length_at_least x y left lost =
     let below = next_square _ _ (root_is_greatest (unsigned_abs x * unsigned_abs x + unsigned_abs y * unsigned_abs y)) in
     le_from_square left (length_of x y + 2) (omega (arith, legs_grow_by_2 (unsigned_abs x) (unsigned_abs y) (length_of x y) below))
 
-friction_at_keeps : (speed : ℕ) (v : Vec3) (ms : ℕ) → speed * speed ≤ unsigned_abs v.x * unsigned_abs v.x + unsigned_abs v.y * unsigned_abs v.y → slowed ms speed ≤ speed_of (friction_at speed v ms) + 2
+friction_at_keeps : (speed : ℕ) (v : Vec3) (ms : ℕ) → speed * speed ≤ unsigned_abs v.x * unsigned_abs v.x + unsigned_abs v.y * unsigned_abs v.y → speed_after_friction ms speed ≤ speed_of (friction_at speed v ms) + 2
 friction_at_keeps zero v ms most = omega arith
 friction_at_keeps (suc n) v ms most =
-    let left = slowed ms (suc n) in
-    length_at_least (scaled v.x (pos left) (suc n)) (scaled v.y (pos left) (suc n)) left (shares_lose_at_most (unsigned_abs v.x) (unsigned_abs v.y) left (suc n) _ _ (omega arith) (share_lost v.x left (suc n) (omega arith)) (share_lost v.y left (suc n) (omega arith)) most)
+    let left = speed_after_friction ms (suc n) in
+    length_at_least (scaled_part v.x (pos left) (suc n)) (scaled_part v.y (pos left) (suc n)) left (shares_lose_at_most (unsigned_abs v.x) (unsigned_abs v.y) left (suc n) _ _ (omega arith) (share_lost v.x left (suc n) (omega arith)) (share_lost v.y left (suc n) (omega arith)) most)
 
 pub friction_slows : FrictionSlows
 friction_slows v ms = record {

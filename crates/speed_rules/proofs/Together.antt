@@ -7,10 +7,10 @@ use Rattle.arena_geo.specs.Vectors.{IsNear}
 use Rattle.arena_geo.specs.Roots.{root_of}
 use Rattle.arena_geo.proofs.Squares.{root_is_greatest, same_root}
 use Rattle.speed_rules.specs.Measures.{speed_of}
-use Rattle.speed_rules.specs.Rules.{jumped, friction_of, friction_at, accelerated, cut, velocity_of}
+use Rattle.speed_rules.specs.Rules.{velocity_after_jump, friction_of, friction_at, accelerated_velocity, cut, velocity_of}
 use Rattle.speed_rules.specs.Wishes.{wish_length, part_along_wish, wish_cap, wish_gain}
 use Rattle.speed_rules.specs.Changes.{Shortens}
-use Rattle.speed_rules.specs.Together.{fallen, launched, HeightsAreKnown, FliersKeepTheirCourse, IsSlowed, WalkersAreSlowed, HasRoomToGain, IsLed, WishesAreFollowed}
+use Rattle.speed_rules.specs.Together.{z_after_fall, z_after_jump, HeightsAreKnown, FliersKeepTheirCourse, IsSlowed, WalkersAreSlowed, HasRoomToGain, IsLed, WishesAreFollowed}
 use Rattle.speed_rules.specs.Laws.{StopsAtCap, ReachesCap, ChangesAlong}
 use Rattle.speed_rules.proofs.Slowing.{friction_shortens}
 use Rattle.speed_rules.proofs.Pushing.{acceleration_is_bounded}
@@ -23,11 +23,11 @@ cut_kept : (part : ℤ) → unsigned_abs part ≤ 512000 → cut part ≡ part
 cut_kept part small = omega (arith, ints, clamps)
 
 -- a height that falls is cut below alone
-cut_fallen : (z : ℤ) (ms : ℕ) → unsigned_abs z ≤ 512000 → cut (z -ℤ pos (204800 * ms / 1000)) ≡ fallen z ms
+cut_fallen : (z : ℤ) (ms : ℕ) → unsigned_abs z ≤ 512000 → cut (z -ℤ pos (204800 * ms / 1000)) ≡ z_after_fall z ms
 cut_fallen z ms small = omega (arith, ints, clamps)
 
 -- a height that is launched is cut above alone
-cut_launched : (z : ℤ) (ms : ℕ) → unsigned_abs z ≤ 512000 → ms ≤ 50 → cut (z +ℤ pos 69120 -ℤ pos (204800 * ms / 1000)) ≡ launched z ms
+cut_launched : (z : ℤ) (ms : ℕ) → unsigned_abs z ≤ 512000 → ms ≤ 50 → cut (z +ℤ pos 69120 -ℤ pos (204800 * ms / 1000)) ≡ z_after_jump z ms
 cut_launched z ms small brief = omega (arith, ints, clamps)
 
 -- ---- up and down
@@ -35,7 +35,7 @@ pub heights_are_known : HeightsAreKnown
 heights_are_known v wish_x wish_y ms near brief =
     record {
       falling = λ jump. ap (λ (z : ℤ). cut (z -ℤ pos (204800 * ms / 1000))) (acceleration_is_bounded v wish_x wish_y ms false).z ∙ cut_fallen v.z ms near.z;
-      jumping = ap (λ (z : ℤ). cut (z -ℤ pos (204800 * ms / 1000))) (acceleration_is_bounded (jumped v) wish_x wish_y ms false).z ∙ cut_launched v.z ms near.z brief;
+      jumping = ap (λ (z : ℤ). cut (z -ℤ pos (204800 * ms / 1000))) (acceleration_is_bounded (velocity_after_jump v) wish_x wish_y ms false).z ∙ cut_launched v.z ms near.z brief;
       walking = ap cut ((acceleration_is_bounded (friction_of v ms) wish_x wish_y ms true).z ∙ (friction_shortens v ms).z) ∙ cut_kept v.z near.z;
     }
 
@@ -91,10 +91,10 @@ changes_along old v w wish_x wish_y x_is y_is changes =
 
 -- the velocity w has the course of v with its gain, so its wish leads it to this cap
 led : (v w : Vec3) (wish_x wish_y : ℤ) (ms cap : ℕ) (on_ground : Bool) → ms ≤ 50 → wish_cap on_ground wish_x wish_y ≡ cap
-    → w.x ≡ (accelerated v wish_x wish_y ms on_ground).x → w.y ≡ (accelerated v wish_x wish_y ms on_ground).y
+    → w.x ≡ (accelerated_velocity v wish_x wish_y ms on_ground).x → w.y ≡ (accelerated_velocity v wish_x wish_y ms on_ground).y
     → IsLed cap (wish_length wish_x wish_y) ms wish_x wish_y v w
 led v w wish_x wish_y ms cap on_ground brief cap_is x_is y_is =
-    let a = accelerated v wish_x wish_y ms on_ground in
+    let a = accelerated_velocity v wish_x wish_y ms on_ground in
     let old = part_along_wish v wish_x wish_y in
     let gain = wish_gain wish_x wish_y ms in
     let same : part_along_wish a wish_x wish_y ≡ part_along_wish w wish_x wish_y = sym (same_part a w wish_x wish_y x_is y_is) in
@@ -107,9 +107,9 @@ led v w wish_x wish_y ms cap on_ground brief cap_is x_is y_is =
 -- so is a velocity that is v with its gain, but for z, after the clamp
 led_in_range : (v : Vec3) (wish_x wish_y : ℤ) (ms cap : ℕ) (on_ground : Bool) (z : ℤ) → HasRoomToGain v → ms ≤ 50 → wish_cap on_ground wish_x wish_y ≡ cap
     → IsLed cap (wish_length wish_x wish_y) ms wish_x wish_y v
-    (record { x = cut (accelerated v wish_x wish_y ms on_ground).x; y = cut (accelerated v wish_x wish_y ms on_ground).y; z = z })
+    (record { x = cut (accelerated_velocity v wish_x wish_y ms on_ground).x; y = cut (accelerated_velocity v wish_x wish_y ms on_ground).y; z = z })
 led_in_range v wish_x wish_y ms cap on_ground z room brief cap_is =
-    let a = accelerated v wish_x wish_y ms on_ground in
+    let a = accelerated_velocity v wish_x wish_y ms on_ground in
     let adds = acceleration_is_bounded v wish_x wish_y ms on_ground in
     led v (record { x = cut a.x; y = cut a.y; z = z }) wish_x wish_y ms cap on_ground brief cap_is
     (cut_added v.x _ _ room.x (most_gained ms brief) adds.x) (cut_added v.y _ _ room.y (most_gained ms brief) adds.y)
@@ -143,7 +143,7 @@ wishes_are_followed v wish_x wish_y ms room brief =
     record {
       walking = unwished_led v (velocity_of true false v wish_x wish_y ms) (min len 81920) len ms wish_x wish_y room
           (led_in_range (friction_of v ms) wish_x wish_y ms (min len 81920) true (velocity_of true false v wish_x wish_y ms).z (slowed_has_room v (friction_of v ms) room (friction_shortens v ms)) brief refl);
-      jumping = led_from (jumped v) v (velocity_of true true v wish_x wish_y ms) (min len 7680) len ms wish_x wish_y refl refl
-          (led_in_range (jumped v) wish_x wish_y ms (min len 7680) false (velocity_of true true v wish_x wish_y ms).z (record { x = room.x; y = room.y }) brief (in_the_air wish_x wish_y));
+      jumping = led_from (velocity_after_jump v) v (velocity_of true true v wish_x wish_y ms) (min len 7680) len ms wish_x wish_y refl refl
+          (led_in_range (velocity_after_jump v) wish_x wish_y ms (min len 7680) false (velocity_of true true v wish_x wish_y ms).z (record { x = room.x; y = room.y }) brief (in_the_air wish_x wish_y));
       falling = λ jump. led_in_range v wish_x wish_y ms (min len 7680) false (velocity_of false jump v wish_x wish_y ms).z room brief (in_the_air wish_x wish_y);
     }

@@ -8,7 +8,7 @@ use Rattle.speed_rules.specs.declared.constants.TheConstants.{UNIT, SECOND, FRIC
 use Rattle.speed_rules.specs.declared.constants.TheConstants.{MAX_AIR_SPEED, GRAVITY, JUMP_SPEED}
 use Rattle.speed_rules.specs.declared.constants.TheConstants.{MAX_VELOCITY, MAX_UNCLAMPED}
 use Rattle.speed_rules.specs.Measures.{speed_of, greatest_velocity}
-use Rattle.speed_rules.specs.Rules.{jumped, slowed, friction_of, accelerated, gravity_of, clamped, unclamped}
+use Rattle.speed_rules.specs.Rules.{velocity_after_jump, speed_after_friction, friction_of, accelerated_velocity, gravity_of, clamped_velocity, velocity_before_clamp}
 use Rattle.speed_rules.specs.Wishes.{wish_length, dot_with_wish, cross_with_wish, part_along_wish}
 use Rattle.speed_rules.specs.Wishes.{wish_cap, wish_gain}
 use Rattle.speed_rules.specs.Changes.{Shortens, KeepsZeros, AddsAtMost, AddsUpwards, IsClamped, IsStill}
@@ -40,9 +40,9 @@ FrictionKeepsZeros = (v : Vec3) (ms : ℕ) → KeepsZeros v (friction_of v ms)
 -- the speed over the ground that friction leaves is the slowed speed, but for at most 2 that the cuts lose; while there
 -- is a speed the slowed speed is less
 pub record Slows (v : Vec3) (ms : ℕ) : Type 0 where
-  pub most : speed_of (friction_of v ms) ≤ slowed ms (speed_of v)
-  pub least : slowed ms (speed_of v) ≤ speed_of (friction_of v ms) + 2
-  pub less : 1 ≤ ms → 0 < speed_of v → slowed ms (speed_of v) < speed_of v
+  pub most : speed_of (friction_of v ms) ≤ speed_after_friction ms (speed_of v)
+  pub least : speed_after_friction ms (speed_of v) ≤ speed_of (friction_of v ms) + 2
+  pub less : 1 ≤ ms → 0 < speed_of v → speed_after_friction ms (speed_of v) < speed_of v
 
 -- friction slows a player over the ground by what its formula says
 abbrev pub FrictionSlows : Type 0
@@ -61,7 +61,7 @@ FrictionStops =
 abbrev pub AccelerationIsBounded : Type 0
 AccelerationIsBounded =
     (v : Vec3) (wish_x wish_y : ℤ) (ms : ℕ) (on_ground : Bool)
-    → AddsAtMost (ACCELERATE * MAX_SPEED * ms / SECOND) v (accelerated v wish_x wish_y ms on_ground)
+    → AddsAtMost (ACCELERATE * MAX_SPEED * ms / SECOND) v (accelerated_velocity v wish_x wish_y ms on_ground)
 
 -- the part along a wish is at most 1 past the cap, or where it was, and at most 1 more than the gain greater
 pub record StopsAtCap (cap gain : ℕ) (old new : ℤ) : Type 0 where
@@ -75,7 +75,7 @@ AccelerationStopsAtTheCap =
     (v : Vec3) (wish_x wish_y : ℤ) (ms : ℕ) (on_ground : Bool)
     → ms ≤ 50
     → let old = part_along_wish v wish_x wish_y in
-    let new = part_along_wish (accelerated v wish_x wish_y ms on_ground) wish_x wish_y in
+    let new = part_along_wish (accelerated_velocity v wish_x wish_y ms on_ground) wish_x wish_y in
     StopsAtCap (wish_cap on_ground wish_x wish_y) (wish_gain wish_x wish_y ms) old new
 
 -- the part along a wish is at most 3 short of the cap, or of what it was and the gain where that is less
@@ -89,17 +89,17 @@ AccelerationReachesTheCap =
     (v : Vec3) (wish_x wish_y : ℤ) (ms : ℕ) (on_ground : Bool)
     → 0 < wish_length wish_x wish_y
     → let old = part_along_wish v wish_x wish_y in
-    let new = part_along_wish (accelerated v wish_x wish_y ms on_ground) wish_x wish_y in
+    let new = part_along_wish (accelerated_velocity v wish_x wish_y ms on_ground) wish_x wish_y in
     ReachesCap (wish_cap on_ground wish_x wish_y) (wish_gain wish_x wish_y ms) old new
 
 -- at the cap the velocity is kept; where 2 or more are missing to it, it gains along the wish
 pub record ActsBelowCap (v : Vec3) (wish_x wish_y : ℤ) (ms : ℕ) (on_ground : Bool) : Type 0 where
   pub rests : pos (wish_cap on_ground wish_x wish_y) ≤ℤ part_along_wish v wish_x wish_y
-      → accelerated v wish_x wish_y ms on_ground ≡ v
+      → accelerated_velocity v wish_x wish_y ms on_ground ≡ v
   pub acts : 1 ≤ ms
       → 0 < wish_length wish_x wish_y
       → (part_along_wish v wish_x wish_y +ℤ pos 2) ≤ℤ pos (wish_cap on_ground wish_x wish_y)
-      → dot_with_wish v wish_x wish_y <ℤ dot_with_wish (accelerated v wish_x wish_y ms on_ground) wish_x wish_y
+      → dot_with_wish v wish_x wish_y <ℤ dot_with_wish (accelerated_velocity v wish_x wish_y ms on_ground) wish_x wish_y
 
 -- acceleration acts below the cap, and there alone
 abbrev pub AccelerationActsBelowTheCap : Type 0
@@ -117,7 +117,7 @@ abbrev pub AccelerationActsAlongTheWish : Type 0
 AccelerationActsAlongTheWish =
     (v : Vec3) (wish_x wish_y : ℤ) (ms : ℕ) (on_ground : Bool)
     → 0 < wish_length wish_x wish_y
-    → ChangesAlong wish_x wish_y v (accelerated v wish_x wish_y ms on_ground)
+    → ChangesAlong wish_x wish_y v (accelerated_velocity v wish_x wish_y ms on_ground)
 
 -- ---- gravity and jumps
 -- gravity takes 204,800 sub-units a second from z in a second, cut toward 0, and keeps x and y
@@ -126,16 +126,16 @@ GravityPullsDown = (v : Vec3) (ms : ℕ) → AddsUpwards (neg_ℤ (pos (204800 *
 
 -- a jump adds 69,120 sub-units a second to z, and keeps x and y
 abbrev pub JumpsPushUp : Type 0
-JumpsPushUp = (v : Vec3) → AddsUpwards (pos 69120) v (jumped v)
+JumpsPushUp = (v : Vec3) → AddsUpwards (pos 69120) v (velocity_after_jump v)
 
 -- ---- the clamp
 -- the clamp keeps each part that is in range, and takes each other part to the end of the range that it is beyond
 abbrev pub ClampKeepsWhatIsInRange : Type 0
-ClampKeepsWhatIsInRange = (v : Vec3) → IsClamped v (clamped v)
+ClampKeepsWhatIsInRange = (v : Vec3) → IsClamped v (clamped_velocity v)
 
 -- to clamp again changes nothing
 abbrev pub ClampIsIdempotent : Type 0
-ClampIsIdempotent = (v : Vec3) → clamped (clamped v) ≡ clamped v
+ClampIsIdempotent = (v : Vec3) → clamped_velocity (clamped_velocity v) ≡ clamped_velocity v
 
 -- a move that begins with a record's velocity enters the clamp within 600,000
 abbrev pub WhatEntersTheClampIsNear : Type 0
@@ -143,4 +143,4 @@ WhatEntersTheClampIsNear =
     (on_ground jump : Bool) (v : Vec3) (wish_x wish_y : ℤ) (ms : ℕ)
     → IsNear greatest_velocity v
     → ms ≤ 50
-    → IsNear MAX_UNCLAMPED (unclamped on_ground jump v wish_x wish_y ms)
+    → IsNear MAX_UNCLAMPED (velocity_before_clamp on_ground jump v wish_x wish_y ms)

@@ -17,8 +17,8 @@ abbrev pub greatest_velocity : ℕ
 greatest_velocity = unsigned_abs MAX_VELOCITY
 
 -- part times by over whole, cut toward 0
-abbrev pub scaled : ℤ → ℤ → ℕ → ℤ
-scaled part by whole = int_div (part *ℤ by) (pos whole)
+abbrev pub scaled_part : ℤ → ℤ → ℕ → ℤ
+scaled_part part by whole = int_div (part *ℤ by) (pos whole)
 
 -- the product of a velocity over the ground with (x, y), axis by axis
 abbrev pub dot_of : Vec3 → ℤ → ℤ → ℤ

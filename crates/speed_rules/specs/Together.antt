@@ -15,18 +15,18 @@ abbrev pub fall_in : ℕ → ℤ
 fall_in ms = pos (204800 * ms / 1000)
 
 -- in the air z falls, down to -512,000
-abbrev pub fallen : ℤ → ℕ → ℤ
-fallen z ms = int_max (neg_ℤ (pos 512000)) (z -ℤ fall_in ms)
+abbrev pub z_after_fall : ℤ → ℕ → ℤ
+z_after_fall z ms = int_max (neg_ℤ (pos 512000)) (z -ℤ fall_in ms)
 
 -- a jump adds 69,120 to z, less the fall, up to 512,000
-abbrev pub launched : ℤ → ℕ → ℤ
-launched z ms = int_min (z +ℤ pos 69120 -ℤ fall_in ms) (pos 512000)
+abbrev pub z_after_jump : ℤ → ℕ → ℤ
+z_after_jump z ms = int_min (z +ℤ pos 69120 -ℤ fall_in ms) (pos 512000)
 
 -- whatever a player wishes, its z falls in the air, where the jump button does nothing; a jump launches it; and z stays
 -- where it walks
 pub record HasKnownZ (v : Vec3) (wish_x wish_y : ℤ) (ms : ℕ) : Type 0 where
-  pub falling : (jump : Bool) → (velocity_of false jump v wish_x wish_y ms).z ≡ fallen v.z ms
-  pub jumping : (velocity_of true true v wish_x wish_y ms).z ≡ launched v.z ms
+  pub falling : (jump : Bool) → (velocity_of false jump v wish_x wish_y ms).z ≡ z_after_fall v.z ms
+  pub jumping : (velocity_of true true v wish_x wish_y ms).z ≡ z_after_jump v.z ms
   pub walking : (velocity_of true false v wish_x wish_y ms).z ≡ v.z
 
 -- so it is with each velocity of a record

@@ -1,8 +1,8 @@
 ghost use Rattle.std.specs.Prelude.{◌≡◌, ◌*◌, ◌/◌, ◌^◌, ◌<◌, ◌≤◌, pos, ◌≤ℤ◌, unsigned_abs};
 ghost use Rattle.arena_geo.specs.Vectors.{IsNear};
 ghost use Rattle.speed_rules.specs.Measures.{part_along};
-ghost use Rattle.speed_rules.specs.Rules.{cap_of, missing_of, greatest_gain, pushed};
-ghost use Rattle.speed_rules.specs.Rules.{accelerated_toward, accelerated};
+ghost use Rattle.speed_rules.specs.Rules.{cap_of, missing_of, greatest_gain, velocity_with_gain};
+ghost use Rattle.speed_rules.specs.Rules.{accelerated_toward, accelerated_velocity};
 ghost use Rattle.speed_rules.specs.Changes.{AddsAtMost};
 
 use crate::arithmetic::{length, product, quotient, scale};
@@ -32,7 +32,7 @@ fn along(vel: Vec3, x: i32, y: i32, len: u32) -> i64
 }
 
 /// How far the velocity's part along the wish is below the cap.
-fn missing(vel: Vec3, x: i32, y: i32, len: u32, on_ground: bool) -> i64
+fn missing_speed(vel: Vec3, x: i32, y: i32, len: u32, on_ground: bool) -> i64
     requires near { IsNear MAX_UNCLAMPED vel }
     requires some { 0 < len }
     ensures { result ≡ missing_of vel x y len on_ground }
@@ -57,7 +57,7 @@ fn push(vel: Vec3, x: i32, y: i32, len: u32, gain: i32) -> Vec3
     requires y_is_part { unsigned_abs y ≤ len }
     requires positive { pos 0 ≤ℤ gain }
     requires small { unsigned_abs gain ≤ 40960 }
-    ensures { result ≡ pushed vel x y len gain }
+    ensures { result ≡ velocity_with_gain vel x y len gain }
 {
     Vec3 {
         x: vel.x + scale(x, gain, len),
@@ -75,7 +75,7 @@ fn accelerate_toward(vel: Vec3, x: i32, y: i32, len: u32, ms: u8, on_ground: boo
     requires brief { ms ≤ 50 }
     ensures { result ≡ accelerated_toward vel x y len ms on_ground }
 {
-    let missing = missing(vel, x, y, len, on_ground);
+    let missing = missing_speed(vel, x, y, len, on_ground);
     if missing <= 0 {
         return vel;
     }
@@ -90,7 +90,7 @@ pub fn accelerate(vel: Vec3, wish_x: i16, wish_y: i16, ms: u8, on_ground: bool) 
     requires near { IsNear MAX_UNCLAMPED vel }
     requires least { 1 ≤ ms }
     requires most { ms ≤ 50 }
-    ensures value { result ≡ accelerated vel wish_x wish_y ms on_ground }
+    ensures value { result ≡ accelerated_velocity vel wish_x wish_y ms on_ground }
     ensures adds { AddsAtMost (ACCELERATE * MAX_SPEED * ms / SECOND) vel result }
 {
     let x = i32::from(wish_x) * UNIT;

@@ -1,5 +1,5 @@
 ghost use Rattle.std.specs.Prelude.{◌≡◌, ◌+◌, ◌*◌, ◌^◌, ◌<◌, ◌≤◌, pos, ◌*ℤ◌, ◌≤ℤ◌, unsigned_abs, int_div};
-ghost use Rattle.speed_rules.specs.Measures.{length_of, scaled};
+ghost use Rattle.speed_rules.specs.Measures.{length_of, scaled_part};
 
 use arena_geo::isqrt;
 
@@ -43,7 +43,7 @@ pub fn scale(part: i32, by: i32, whole: u32) -> i32
     requires some { 0 < whole }
     requires is_part { unsigned_abs part ≤ whole }
     requires positive { pos 0 ≤ℤ by }
-    ensures value { result ≡ scaled part by whole }
+    ensures value { result ≡ scaled_part part by whole }
     ensures bound { unsigned_abs result ≤ unsigned_abs by }
 {
     quotient(product(part, by), whole) as i32

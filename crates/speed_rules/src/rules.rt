@@ -1,7 +1,7 @@
 ghost use Rattle.std.specs.Prelude.{◌≡◌, ◌≤◌};
 ghost use Rattle.arena_geo.specs.Vectors.{IsNear};
 ghost use Rattle.speed_rules.specs.Measures.{greatest_velocity};
-ghost use Rattle.speed_rules.specs.Rules.{slowed, friction_of, gravity_of, clamped};
+ghost use Rattle.speed_rules.specs.Rules.{speed_after_friction, friction_of, gravity_of, clamped_velocity};
 ghost use Rattle.speed_rules.specs.Changes.{Shortens};
 
 use crate::arithmetic::{length, scale};
@@ -10,7 +10,7 @@ use arena_geo::Vec3;
 
 /// The speed that friction leaves of `speed` after `ms` milliseconds.
 fn slow(speed: u32, ms: u8) -> u32
-    ensures value { result ≡ slowed ms speed }
+    ensures value { result ≡ speed_after_friction ms speed }
     ensures no_faster { result ≤ speed }
 {
     let control = speed.max(STOP_SPEED);
@@ -57,7 +57,7 @@ pub fn gravity(vel: Vec3, ms: u8) -> Vec3
 
 /// The velocity with each part cut to -512,000 to 512,000, as Quake's `SV_CheckVelocity`.
 pub fn clamp(vel: Vec3) -> Vec3
-    ensures value { result ≡ clamped vel }
+    ensures value { result ≡ clamped_velocity vel }
     ensures near { IsNear greatest_velocity result }
 {
     Vec3 {

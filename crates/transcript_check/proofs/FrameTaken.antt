@@ -14,7 +14,7 @@ use Rattle.plain_server.specs.Frames.{state_after_tick, received_in, moved_by, s
 use Rattle.plain_server.proofs.Frames.{received_is, moved_by_is, state_after_is}
 use Rattle.demo_lines.specs.Reads.{DemoReaderView}
 use Rattle.out_text.specs.FrameLines.{lines_with}
-use Rattle.transcript_check.specs.Reading.{counted, ReadsBeginning, Misses}
+use Rattle.transcript_check.specs.Reading.{count_after, ReadsBeginning, Misses}
 use Rattle.transcript_check.specs.Checkers.{CheckerView, IsChecker}
 use Rattle.transcript_check.specs.Pieces.{ReadsJournal, HasNoJournal, AreOfJournal, TakesFrame}
 use Rattle.transcript_check.specs.Moves.{RunsFrame}
@@ -73,7 +73,7 @@ module _ {S : Type 0} (s : sources.Ghosts S) (old new : S) (demo demo' : DemoRea
           state_is = next ∙ ap (λ (p : Receiving). state_after v.map p runs.journal) here.is;
           frames_are = frames_are;
           moves_are = moves_are ∙ ap (λ (p : Receiving). v.moves + length p.lists.moves) here.is;
-          count_is = count_is ∙ runs.count_is ∙ ap (λ (p : Receiving). counted v.count (length (lines_with v.map v.frames p runs.journal))) here.is;
+          count_is = count_is ∙ runs.count_is ∙ ap (λ (p : Receiving). count_after v.count (length (lines_with v.map v.frames p runs.journal))) here.is;
           is = record {
             is_map = subst IsMap (sym map_is) here.is_map;
             fits = subst (λ (m : MapView). IsServerState m v'.state) (sym map_is)

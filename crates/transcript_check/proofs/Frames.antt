@@ -14,7 +14,7 @@ use Rattle.out_text.specs.FrameLines.{did_line, to_lines}
 use Rattle.out_text.specs.OutLines.{OutLine, text_of}
 use Rattle.out_text.specs.Transcripts.{BeginsWith}
 use Rattle.out_text.proofs.Runs.{text_of-append}
-use Rattle.transcript_check.specs.Reading.{counted, ahead_of, ReadsLines, ReadsBeginning, Misses}
+use Rattle.transcript_check.specs.Reading.{count_after, ahead_of, ReadsLines, ReadsBeginning, Misses}
 use Rattle.transcript_check.specs.Pieces.{HasNoJournal, AreOfJournal, head_lines}
 use Rattle.transcript_check.specs.Moves.{RunsMoves, moved_in, lines_among, RunsFrame}
 use Rattle.transcript_check.proofs.Texts.{begins-after, begins-front, if_some-weaker, if_some-both}
@@ -114,7 +114,7 @@ module _ {S : Type 0} (s : sources.Ghosts S) (map_view : MapView) (frame : ℕ) 
           begun
 
       -- all was read
-      pub frame-read : (g : S) (h : DemoReaderView) (first last : ℕ) → ReadsLines s c g f h (to_lines frame records') → count ≡ counted first (length head) → last ≡ counted count' (length (to_lines frame records'))
+      pub frame-read : (g : S) (h : DemoReaderView) (first last : ℕ) → ReadsLines s c g f h (to_lines frame records') → count ≡ count_after first (length head) → last ≡ count_after count' (length (to_lines frame records'))
           → RunsFrame s map_view frame lists a g d h records records' first last
       frame-read g h first last shows counts more = record {
         journal = runs.journal;
@@ -127,8 +127,8 @@ module _ {S : Type 0} (s : sources.Ghosts S) (map_view : MapView) (frame : ℕ) 
               (λ bytes has other right begins. has.holds other right (begins-front has.left (text_of (map did_line other)) _ (after-head bytes has.left other has.is begins)));
         };
         records_are = runs.records_are;
-        count_is = more ∙ ap (λ n. counted n (length (to_lines frame records'))) (runs.count_is ∙ ap (λ n. counted n (length runs.journal)) counts ∙ counted-both first (length head) (length runs.journal))
-            ∙ counted-both first (length head + length runs.journal) (length (to_lines frame records')) ∙ ap (counted first) lengths;
+        count_is = more ∙ ap (λ n. count_after n (length (to_lines frame records'))) (runs.count_is ∙ ap (λ n. count_after n (length runs.journal)) counts ∙ counted-both first (length head) (length runs.journal))
+            ∙ counted-both first (length head + length runs.journal) (length (to_lines frame records')) ∙ ap (count_after first) lengths;
       }
         where
           lengths : length head + length runs.journal + length (to_lines frame records') ≡ length (Lines runs.journal)

@@ -15,11 +15,11 @@ use Rattle.plain_server.proofs.Turns.{right_count}
 use Rattle.demo_lines.specs.Reads.{DemoReaderView}
 use Rattle.demo_lines.specs.Rest.{HasRest}
 use Rattle.out_text.specs.FrameLines.{lines_with, run_lines}
-use Rattle.out_text.specs.OutLines.{OutLine, EndLine, printed, text_of}
+use Rattle.out_text.specs.OutLines.{OutLine, EndLine, printed_line, text_of}
 use Rattle.out_text.specs.Transcripts.{BeginsWith, run_moves, IsTranscript, HasRightPieces, IsWrongAfter}
 use Rattle.out_text.proofs.Runs.{run_lines-append, run_lines-push, state_played-push, right-append, right-push, right-split_last, right-take, text_of-append, next_number, same_taken}
 use Rattle.client_ports.specs.declared.received.TheConstants.{MOST_FRAME_MOVES}
-use Rattle.transcript_check.specs.Reading.{counted, ahead_of, IsNeeded, ReadsLines, ReadsOneAtMost, ReadsBeginning, Misses}
+use Rattle.transcript_check.specs.Reading.{count_after, ahead_of, IsNeeded, ReadsLines, ReadsOneAtMost, ReadsBeginning, Misses}
 use Rattle.transcript_check.specs.Checkers.{CheckerView, new_checker, IsChecker}
 use Rattle.transcript_check.specs.Pieces.{HasNoJournal, AreOfJournal, TakesFrame}
 use Rattle.transcript_check.specs.Looked.{AreOfOutput, TakesOutput}
@@ -59,7 +59,7 @@ pushed (suc n) (x ∷ ls) same =
     record { front = x ∷ rest.front; last = rest.last; is = ap (λ (ys : List (List Entry)). x ∷ ys) rest.is; same = ap suc rest.same }
 
 -- a count of few lines is their number
-pub counted-few : (n : ℕ) → n ≤ 2000 * MOST_FRAMES → counted 0 n ≡ n
+pub counted-few : (n : ℕ) → n ≤ 2000 * MOST_FRAMES → count_after 0 n ≡ n
 counted-few zero few = refl
 counted-few (suc n) few = omega (arith, few)
 
@@ -200,18 +200,18 @@ wrong-pieces map done arrivals more js bytes left right is never =
 
 -- all pieces of frames are right, and the last line is wrong
 endless-pieces : (map : MapView) (frames : List (List Arrival)) (js : List (List Entry)) (bytes left : List ℕ) → AreRight map 0 (opening map) frames js
-    → bytes ≡ text_of (run_lines map 0 (opening map) frames js) ++ left → HasOnly map frames js bytes → (BeginsWith left (printed (EndLine (length frames))) → ⊥)
+    → bytes ≡ text_of (run_lines map 0 (opening map) frames js) ++ left → HasOnly map frames js bytes → (BeginsWith left (printed_line (EndLine (length frames))) → ⊥)
     → IsWrongAfter map frames bytes (length (run_lines map 0 (opening map) frames js))
 endless-pieces map frames js bytes left right is only none =
     let all : take (length frames) frames ≡ frames = ap (take (length frames)) (sym (append-nil frames)) ∙ take-done frames [] in
     let end = EndLine (length frames) in
     let not_all : IsTranscript map frames bytes → ⊥ =
     λ t. (let lines = run_lines map 0 (opening map) frames t.journals in
-    let begins : BeginsWith bytes (text_of lines ++ printed end) = subst (BeginsWith bytes) (text_of-append lines (end ∷ []) ∙ ap (λ x. text_of lines ++ x) (text_of-one end)) t.begins in
-    let same : t.journals ≡ js = only t.journals t.right (begins-front bytes (text_of lines) (printed end) begins) in
-    let here : BeginsWith bytes (text_of (run_lines map 0 (opening map) frames js) ++ printed end) =
-    subst (λ (ls : List (List Entry)). BeginsWith bytes (text_of (run_lines map 0 (opening map) frames ls) ++ printed end)) same begins in
-    none (begins-after bytes left (text_of (run_lines map 0 (opening map) frames js)) (printed end) is here)) in
+    let begins : BeginsWith bytes (text_of lines ++ printed_line end) = subst (BeginsWith bytes) (text_of-append lines (end ∷ []) ∙ ap (λ x. text_of lines ++ x) (text_of-one end)) t.begins in
+    let same : t.journals ≡ js = only t.journals t.right (begins-front bytes (text_of lines) (printed_line end) begins) in
+    let here : BeginsWith bytes (text_of (run_lines map 0 (opening map) frames js) ++ printed_line end) =
+    subst (λ (ls : List (List Entry)). BeginsWith bytes (text_of (run_lines map 0 (opening map) frames ls) ++ printed_line end)) same begins in
+    none (begins-after bytes left (text_of (run_lines map 0 (opening map) frames js)) (printed_line end) is here)) in
     record {
       k = length frames;
       pieces = record {
@@ -236,7 +236,7 @@ pub record FramesSoFar {S : Type 0} (s : sources.Ghosts S) (map : MapView) (done
   pub frames_are : c.frames ≡ 0 + length done
   pub moves_are : c.moves ≡ run_moves map 0 (opening map) done journals
   pub moves_few : c.moves ≤ MOST_FRAME_MOVES * length done
-  pub count_is : c.count ≡ counted 0 (length (run_lines map 0 (opening map) done journals))
+  pub count_is : c.count ≡ count_after 0 (length (run_lines map 0 (opening map) done journals))
   pub few : length (run_lines map 0 (opening map) done journals) ≤ 2000 * length done
   pub is : IsChecker c.map c.state
 
@@ -281,7 +281,7 @@ module _ {S : Type 0} (s : sources.Ghosts S) (map : MapView) where
         let both = run_lines-push map 0 (opening map) done arrivals js j same in
         let long = ap length both ∙ length-append front here in
         let more = length-append done (arrivals ∷ []) in
-        let counts = t.count_is ∙ ap (λ n. counted n (length here)) so.count_is ∙ counted-both 0 (length front) (length here) ∙ ap (counted 0) (sym long) in
+        let counts = t.count_is ∙ ap (λ n. count_after n (length here)) so.count_is ∙ counted-both 0 (length front) (length here) ∙ ap (count_after 0) (sym long) in
         let moves = run_moves-push map 0 (opening map) done arrivals js j same in
         record {
           journals = js ++ j ∷ [];
@@ -406,20 +406,20 @@ module _ {S : Type 0} (s : sources.Ghosts S) (map : MapView) where
         }
 
     -- the last line is missed
-    pub so-far-endless : (new : S) (before : ℕ) → length frames ≤ MOST_FRAMES → Misses s now new demo' (λ bytes. BeginsWith bytes (printed (EndLine c.frames)) → ⊥)
+    pub so-far-endless : (new : S) (before : ℕ) → length frames ≤ MOST_FRAMES → Misses s now new demo' (λ bytes. BeginsWith bytes (printed_line (EndLine c.frames)) → ⊥)
         → Misses s old new demo (λ bytes. IsWrongAt map frames bytes before (before + c.count + 1))
     so-far-endless new before few missed =
         let front = run_lines map 0 (opening map) frames so.journals in
         let end : c.frames ≡ length frames = (let f = so.frames_are in omega (arith, f)) in
-        let there = subst (λ n. Misses s now new demo' (λ bytes. BeginsWith bytes (printed (EndLine n)) → ⊥)) end missed in
+        let there = subst (λ n. Misses s now new demo' (λ bytes. BeginsWith bytes (printed_line (EndLine n)) → ⊥)) end missed in
         record {
-          missed = if_some-over (ahead_of s demo old) (ahead_of s demo' now) (text_of front) (HasOnly map frames so.journals) (λ bytes. BeginsWith bytes (printed (EndLine (length frames))) → ⊥)
+          missed = if_some-over (ahead_of s demo old) (ahead_of s demo' now) (text_of front) (HasOnly map frames so.journals) (λ bytes. BeginsWith bytes (printed_line (EndLine (length frames))) → ⊥)
               (λ bytes. IsWrongAt map frames bytes before (before + c.count + 1)) so.reads.consumed so.only there.missed (λ bytes left is only none. wrong-at bytes left is only none);
           uncounted = there.uncounted ∙ so.reads.on.uncounted;
         }
       where
         wrong-at : (bytes left : List ℕ) → bytes ≡ text_of (run_lines map 0 (opening map) frames so.journals) ++ left → HasOnly map frames so.journals bytes
-            → (BeginsWith left (printed (EndLine (length frames))) → ⊥) → IsWrongAt map frames bytes before (before + c.count + 1)
+            → (BeginsWith left (printed_line (EndLine (length frames))) → ⊥) → IsWrongAt map frames bytes before (before + c.count + 1)
         wrong-at bytes left is only none =
             let js = so.journals in
             let lines = run_lines map 0 (opening map) frames js in
@@ -446,7 +446,7 @@ module _ {S : Type 0} (s : sources.Ghosts S) (map : MapView) (frames : List (Lis
 
   -- the last line is missed
   pub end-wrong : (done : List (List Arrival)) → done ≡ frames → (old now new : S) (demo demo' : DemoReaderView) (c : CheckerView) → FramesSoFar s map done old now demo demo' c → (count : ℕ) → count ≡ c.count
-      → Misses s now new demo' (λ bytes. BeginsWith bytes (printed (EndLine c.frames)) → ⊥) → Misses s old new demo (λ bytes. IsVerdict map frames bytes before (Wrong (before + count + 1)))
+      → Misses s now new demo' (λ bytes. BeginsWith bytes (printed_line (EndLine c.frames)) → ⊥) → Misses s old new demo (λ bytes. IsVerdict map frames bytes before (Wrong (before + count + 1)))
   end-wrong done all old now new demo demo' c so count counts missed =
       let here = subst (λ (fs : List (List Arrival)). FramesSoFar s map fs old now demo demo' c) all so in
       subst (λ n. Misses s old new demo (λ bytes. IsWrongAt map frames bytes before (before + n + 1))) (sym counts) (so-far-endless s map frames old now demo demo' c here new before few missed)

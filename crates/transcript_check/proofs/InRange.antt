@@ -13,7 +13,7 @@ use Rattle.arena_map.specs.Validity.{IsValidWorld}
 use Rattle.plain_server.specs.Moving.{HasLivePlayer, HasSmallNumber, effect_among}
 use Rattle.plain_server.proofs.Reports.{reported_one}
 use Rattle.out_text.specs.FrameLines.{did_line}
-use Rattle.out_text.specs.OutLines.{OutLine, spelled, printed, text_of}
+use Rattle.out_text.specs.OutLines.{OutLine, line_spelling, printed_line, text_of}
 use Rattle.out_text.proofs.Lengths.{journal-long}
 use Rattle.transcript_check.specs.Moves.{move_line, IsReadable}
 
@@ -24,8 +24,8 @@ near_fits v near = record {
   z = fits_signed_from_abs w32 v.z (omega (arith, near.z));
 }
 
-printed-long : (l : OutLine) → length (spelled l) ≤ length (text_of (l ∷ []))
-printed-long l = omega (arith, length-append (printed l) (text_of []), length-append (spelled l) (10 ∷ []))
+printed-long : (l : OutLine) → length (line_spelling l) ≤ length (text_of (l ∷ []))
+printed-long l = omega (arith, length-append (printed_line l) (text_of []), length-append (line_spelling l) (10 ∷ []))
 
 -- so its line can be read
 pub readable : (map : MapView) (records : List (Option Rec)) (c : Command) → IsMap map → IsValidWorld map records → HasLivePlayer records c → HasSmallNumber c

@@ -16,7 +16,7 @@ use Rattle.demo_lines.specs.Reads.{DemoReaderView, Reads, map_taken}
 use Rattle.demo_lines.proofs.Continuing.{Continues, continues}
 use Rattle.demo_lines.proofs.Counting.{counted-lines}
 use Rattle.demo_lines.proofs.Ends.{after-over, events_of-over}
-use Rattle.out_text.specs.Collecting.{Frames, collected, frames_within}
+use Rattle.out_text.specs.Collecting.{Frames, frames_of_events, frames_within}
 use Rattle.out_text.proofs.Fewness.{frames_are_few_of}
 use Rattle.out_text.proofs.SmallFrames.{IsSmallFrame, frames_are_small_of}
 use Rattle.transcript_check.specs.Reading.{ahead_of, IsNeeded, Misses, ReadFails}
@@ -30,13 +30,13 @@ short-frames [] small = tt
 short-frames (x ∷ frames) small = (small.0.few, short-frames frames small.1)
 
 module _ (limit : ℕ) (r : Reading) (es : List Event) (arena : MapView) (frames : Frames) (verdict : Verdict) where
-  whole : (bytes rest : List ℕ) → Continues (start_within limit) r es bytes rest → Reads (start_within limit) r (Some bytes) (Some rest) es → frames ≡ collected es → r.stage ≡ Ended
+  whole : (bytes rest : List ℕ) → Continues (start_within limit) r es bytes rest → Reads (start_within limit) r (Some bytes) (Some rest) es → frames ≡ frames_of_events es → r.stage ≡ Ended
       → r.map ≡ Some arena → IsVerdict arena frames.closed rest r.lines verdict → IsJudged limit verdict bytes
   whole bytes rest so reads frames_are ended map_is is =
       let over : is_over r.stage ≡ true = ap is_over ended in
       let none = events_of-over r (lines_of rest) over in
       let all : frames_within limit bytes ≡ frames.closed =
-      ap (λ (ls : List Event). (collected ls).closed) (so.events_are ∙ ap (λ (ls : List Event). es ++ ls) none ∙ append-nil es) ∙ ap (λ (f : Frames). f.closed) (sym frames_are) in
+      ap (λ (ls : List Event). (frames_of_events ls).closed) (so.events_are ∙ ap (λ (ls : List Event). es ++ ls) none ∙ append-nil es) ∙ ap (λ (f : Frames). f.closed) (sym frames_are) in
       let counts = counted-lines (start_within limit) reads.lines reads.going in
       record {
         accepted = so.fault_is ∙ ap (λ (t : Reading). refused_where t (last_part rest)) (after-over r (lines_of rest) over) ∙ ap (λ stage. refused_at stage r (last_part rest)) ended;
@@ -57,7 +57,7 @@ module _ (limit : ℕ) (r : Reading) (es : List Event) (arena : MapView) (frames
         is = subst (λ (fs : List (List Arrival)). IsVerdict arena fs rest r.lines verdict) (sym all) is;
       }
 
-  judged : (a b : Option (List ℕ)) → Reads (start_within limit) r a b es → frames ≡ collected es → r.stage ≡ Ended → r.map ≡ Some arena
+  judged : (a b : Option (List ℕ)) → Reads (start_within limit) r a b es → frames ≡ frames_of_events es → r.stage ≡ Ended → r.map ≡ Some arena
       → IfSome b (λ rest. IsVerdict arena frames.closed rest r.lines verdict) → IfSome a (IsJudged limit verdict)
   judged None b reads frames_are ended map_is is = tt
   judged (Some bytes) None reads frames_are ended map_is is = absurd reads.consumed
@@ -71,7 +71,7 @@ module _ {S : Type 0} (s : sources.Ghosts S) (limit : ℕ) (source source' : S) 
   -- the frames of a recording that was read are few
   pub read-few : limit ≤ MOST_FRAMES → length frames.closed ≤ MOST_FRAMES
   read-few few =
-      let here : frames ≡ collected (events_of (start_within limit) read.reads.lines) = read.frames_are ∙ ap collected (sym read.reads.events) in
+      let here : frames ≡ frames_of_events (events_of (start_within limit) read.reads.lines) = read.frames_are ∙ ap frames_of_events (sym read.reads.events) in
       let most = frames_are_few_of limit read.reads.lines in
       let same = ap (λ (f : Frames). length f.closed) here in
       omega (arith, few, most, same)
@@ -79,8 +79,8 @@ module _ {S : Type 0} (s : sources.Ghosts S) (limit : ℕ) (source source' : S) 
   -- and short
   pub read-short : AllByRecursion IsShort frames.closed
   read-short =
-      let here : frames ≡ collected (events_of (start_within limit) read.reads.lines) = read.frames_are ∙ ap collected (sym read.reads.events) in
-      subst (AllByRecursion IsShort) (ap (λ (f : Frames). f.closed) (sym here)) (short-frames (collected (events_of (start_within limit) read.reads.lines)).closed (frames_are_small_of limit read.reads.lines))
+      let here : frames ≡ frames_of_events (events_of (start_within limit) read.reads.lines) = read.frames_are ∙ ap frames_of_events (sym read.reads.events) in
+      subst (AllByRecursion IsShort) (ap (λ (f : Frames). f.closed) (sym here)) (short-frames (frames_of_events (events_of (start_within limit) read.reads.lines)).closed (frames_are_small_of limit read.reads.lines))
 
   -- a verdict on what follows is one on the whole
   pub read-judged : (source'' : S) (demo' demo'' : DemoReaderView) (arena : MapView) (verdict : Verdict) → demo' ≡ map_taken demo → demo.reading.map ≡ Some arena
@@ -104,7 +104,7 @@ module _ {S : Type 0} (s : sources.Ghosts S) (limit : ℕ) (source source' : S) 
       map = arena;
       map_is = ap (λ (t : Reading). t.map) (sym read.reads.reached) ∙ map_is;
       buffered = demo''.pending;
-      looks = (let here : frames ≡ collected (events_of (start_within limit) read.reads.lines) = read.frames_are ∙ ap collected (sym read.reads.events) in
+      looks = (let here : frames ≡ frames_of_events (events_of (start_within limit) read.reads.lines) = read.frames_are ∙ ap frames_of_events (sym read.reads.events) in
           let Looks : DemoReaderView → Frames → Type 0 = λ d fs.
           LooksAt verdict arena fs.closed (ahead_of s d source') (ahead_of s demo'' source'') (IsNeeded s source' source'' d demo'') (s.ended source'' ≡ true) in
           subst (Looks (map_taken demo)) here (subst (λ (d : DemoReaderView). Looks d frames) taken looks));
@@ -120,7 +120,7 @@ pub stops-comparing : {S : Type 0} (s : sources.Ghosts S) (limit : ℕ) (source 
 stops-comparing s limit source mid new demo demo' recorded stop taken read fails =
     subst (StopsChecking s limit source new) (sym fails.is) (record {
       before_end = fails.before_end ∙ read.before_end (sym (ap (λ (d : DemoReaderView). d.cut) taken) ∙ fails.not_cut);
-      cause = subst (λ (n : ℕ). HasRisen n (s.faults new)) read.uncounted fails.cause;
+      fault = subst (λ (n : ℕ). HasRisen n (s.faults new)) read.uncounted fails.fault;
       later = subst (λ (n : ℕ). n ≤ s.faults new) read.uncounted fails.later;
       fails = λ sure. fails.fails (read.keeps sure);
     })

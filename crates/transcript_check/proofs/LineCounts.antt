@@ -24,7 +24,7 @@ use Rattle.plain_server.proofs.Frames.{opening_is, received_is, state_after_is}
 use Rattle.demo_lines.proofs.Limited.{limits_cut_nothing}
 use Rattle.out_text.specs.Collecting.{frames_of}
 use Rattle.out_text.specs.FrameLines.{no_line, joined_line, did_line, to_line, to_lines, frame_lines, lines_with, run_lines}
-use Rattle.out_text.specs.OutLines.{OutLine, EndLine, FrameLine, spelled, text_of}
+use Rattle.out_text.specs.OutLines.{OutLine, EndLine, FrameLine, line_spelling, text_of}
 use Rattle.out_text.specs.Transcripts.{run_moves}
 use Rattle.out_text.proofs.Fronts.{whole_text, is_output}
 use Rattle.out_text.proofs.KeptRules.{map_keeps_rules}
@@ -39,7 +39,7 @@ weight b = cond b 1 0
 module _ (word : List ℕ) where
   -- the line begins with the word
   abbrev begins : OutLine → Bool
-  begins l = starts_with nat_eq (spelled l) word
+  begins l = starts_with nat_eq (line_spelling l) word
 
   -- how many of these lines do
   abbrev count_in : List OutLine → ℕ
@@ -51,10 +51,10 @@ module _ (word : List ℕ) where
   count-cons : (l : OutLine) (ls : List OutLine) → count_in (l ∷ ls) ≡ cond (begins l) 1 0 + count_in ls
   count-cons l ls = sum_by-cons (λ (k : OutLine). cond (begins k) 1 0) l ls
 
-  count-spelled : (lines : List OutLine) → count_by (λ line. starts_with nat_eq line word) (map_list spelled lines) ≡ count_in lines
+  count-spelled : (lines : List OutLine) → count_by (λ line. starts_with nat_eq line word) (map_list line_spelling lines) ≡ count_in lines
   count-spelled [] = refl
   count-spelled (l ∷ lines) =
-      let more = sum_by-cons (λ (line : List ℕ). cond (starts_with nat_eq line word) 1 0) (spelled l) (map_list spelled lines) in
+      let more = sum_by-cons (λ (line : List ℕ). cond (starts_with nat_eq line word) 1 0) (line_spelling l) (map_list line_spelling lines) in
       more ∙ ap (λ n. cond (begins l) 1 0 + n) (count-spelled lines) ∙ sym (count-cons l lines)
 
   -- of the lines of a text as many do

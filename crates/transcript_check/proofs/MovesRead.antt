@@ -20,13 +20,13 @@ use Rattle.plain_server.proofs.Moves.{moved-none, moved-records}
 use Rattle.demo_lines.specs.Reads.{DemoReaderView}
 use Rattle.demo_lines.specs.Rest.{HasRest, HasNoRestLine}
 use Rattle.out_text.specs.FrameLines.{did_line}
-use Rattle.out_text.specs.OutLines.{OutLine, FrameLine, FromLine, NoLine, JoinedLine, DidLine, ToLine, EndLine, spelled, printed, text_of}
+use Rattle.out_text.specs.OutLines.{OutLine, FrameLine, FromLine, NoLine, JoinedLine, DidLine, ToLine, EndLine, line_spelling, printed_line, text_of}
 use Rattle.out_text.specs.Transcripts.{BeginsWith}
 use Rattle.out_text.proofs.Runs.{text_of-append}
 use Rattle.out_text.proofs.LinesRead as lines_read
 use Rattle.std.proofs.lemmas.Option.{same_Some}
 use Rattle.transcript_check.specs.declared.lines.Reported.{Reported}
-use Rattle.transcript_check.specs.Reading.{counted, ahead_of, ReadsLine, ReadsLines, ReadsOneAtMost, ReadsBeginning, Misses}
+use Rattle.transcript_check.specs.Reading.{count_after, ahead_of, ReadsLine, ReadsLines, ReadsOneAtMost, ReadsBeginning, Misses}
 use Rattle.transcript_check.specs.Pieces.{HasNoJournal, AreOfJournal}
 use Rattle.transcript_check.specs.Moves.{IsNextOf, move_line, IsReadable, IsNoMove, TakesMove, RunsMoves}
 use Rattle.transcript_check.proofs.Texts.{one_line, same_line, text_of-one, begins-after, begins-front, if_some-read, if_some-weaker, if_some-both, if_some-all}
@@ -38,7 +38,7 @@ use Rattle.transcript_check.proofs.Turns.{AreReady, IsRightFrom, right-none, rig
 
 -- where the line that was read is that of no next move
 pub no-move : {S : Type 0} (s : sources.Ghosts S) (map_view : MapView) (a b : S) (d e : DemoReaderView) (given : List ℕ) (records : List (Option Rec)) (pending : List Command) → ReadsLine s a b d e given
-    → ((c : Command) (left : List Command) → IsNextOf pending c left → IsReadable (move_line map_view records c) → given ≡ spelled (move_line map_view records c) → ⊥)
+    → ((c : Command) (left : List Command) → IsNextOf pending c left → IsReadable (move_line map_view records c) → given ≡ line_spelling (move_line map_view records c) → ⊥)
     → Misses s a b d (IsNoMove map_view records pending)
 no-move s map_view a b d e given records pending one none = record { missed = by (ahead_of s d a) (ahead_of s e b) one.gives.consumed; uncounted = one.on.uncounted }
   where
@@ -47,9 +47,9 @@ no-move s map_view a b d e given records pending one none = record { missed = by
     by (Some bytes) None consumed = absurd consumed
     by (Some bytes) (Some left_bytes) consumed = λ c left next is begins.
         let l = move_line map_view records c in
-        let both : given ++ 10 ∷ left_bytes ≡ spelled l ++ 10 ∷ begins.after =
-        sym (append_assoc given (10 ∷ []) left_bytes) ∙ sym consumed ∙ begins.is ∙ append_assoc (spelled l) (10 ∷ []) begins.after in
-        none c left next is (same_line given (spelled l) left_bytes begins.after one.gives.one_line (one_line l) both).line_is
+        let both : given ++ 10 ∷ left_bytes ≡ line_spelling l ++ 10 ∷ begins.after =
+        sym (append_assoc given (10 ∷ []) left_bytes) ∙ sym consumed ∙ begins.is ∙ append_assoc (line_spelling l) (10 ∷ []) begins.after in
+        none c left next is (same_line given (line_spelling l) left_bytes begins.after one.gives.one_line (one_line l) both).line_is
 
 -- where no line was read
 pub no-line : {S : Type 0} (s : sources.Ghosts S) (map_view : MapView) (a b : S) (d : DemoReaderView) (records : List (Option Rec)) (pending : List Command) → Misses s a b d HasNoRestLine
@@ -58,7 +58,7 @@ no-line s map_view a b d records pending none = record {
   missed = if_some-weaker (ahead_of s d a) HasNoRestLine (IsNoMove map_view records pending) none.missed
       (λ bytes has c left next is begins.
       let l = move_line map_view records c in
-      has (spelled l) begins.after (one_line l) is.short (begins.is ∙ append_assoc (spelled l) (10 ∷ []) begins.after));
+      has (line_spelling l) begins.after (one_line l) is.short (begins.is ∙ append_assoc (line_spelling l) (10 ∷ []) begins.after));
   uncounted = none.uncounted;
 }
 
@@ -103,7 +103,7 @@ no-next slot pending c left none next own = not-among slot next.before c next.af
 
 -- two lines of moves that are the same and can be read are of one player
 same-slot : (map_view : MapView) (records : List (Option Rec)) (c d : Command) → IsReadable (move_line map_view records c) → IsReadable (move_line map_view records d)
-    → spelled (move_line map_view records c) ≡ spelled (move_line map_view records d) → c.slot ≡ d.slot
+    → line_spelling (move_line map_view records c) ≡ line_spelling (move_line map_view records d) → c.slot ≡ d.slot
 same-slot map_view records c d is also same = ap slot_of (lines_read.one_line (move_line map_view records c) (move_line map_view records d) is.in_range also.in_range same)
   where
     slot_of : OutLine → ℕ
@@ -149,7 +149,7 @@ module _ {S : Type 0} (s : sources.Ghosts S) (map_view : MapView) (is_map : IsMa
     pub reads : ReadsLines s old now demo demo' (lines front)
     pub into : (rest : List Entry) → IsRightFrom map_view moves (length front) records pending rest → RightFirst (front ++ rest)
     pub out_of : IfSome (ahead_of s demo old) (λ bytes. (journal : List Entry) → RightFirst journal → BeginsWith bytes (text_of (lines journal)) → GoesOnWith records pending front journal)
-    pub count_is : count ≡ counted first (length front)
+    pub count_is : count ≡ count_after first (length front)
 
   -- a right journal from its first place on is right
   right-again : (journal : List Entry) → RightFirst journal → Right journal
@@ -177,7 +177,7 @@ module _ {S : Type 0} (s : sources.Ghosts S) (map_view : MapView) (is_map : IsMa
   }
 
   -- the next line, for a journal that goes on with its move
-  text-with : (front : List Entry) (e : Entry) (rest : List Entry) → text_of (lines (front ++ e ∷ rest)) ≡ text_of (lines front) ++ (printed (did_line e) ++ text_of (lines rest))
+  text-with : (front : List Entry) (e : Entry) (rest : List Entry) → text_of (lines (front ++ e ∷ rest)) ≡ text_of (lines front) ++ (printed_line (did_line e) ++ text_of (lines rest))
   text-with front e rest = ap text_of (map-append did_line front (e ∷ rest)) ∙ text_of-append (lines front) (did_line e ∷ lines rest)
 
   module _ (old now : S) (demo demo' : DemoReaderView) (records : List (Option Rec)) (pending : List Command) (first count : ℕ) (so : MovesSoFar old now demo demo' records pending first count) where
@@ -187,10 +187,10 @@ module _ {S : Type 0} (s : sources.Ghosts S) (map_view : MapView) (is_map : IsMa
 
     -- what is ahead begins with the line of the next move of a journal
     begins-next : (bytes left_bytes : List ℕ) (front rest journal : List Entry) (e : Entry) → bytes ≡ text_of (lines front) ++ left_bytes → journal ≡ front ++ e ∷ rest → BeginsWith bytes (text_of (lines journal))
-        → BeginsWith left_bytes (printed (did_line e))
+        → BeginsWith left_bytes (printed_line (did_line e))
     begins-next bytes left_bytes front rest journal e parts is begins =
-        begins-front left_bytes (printed (did_line e)) (text_of (lines rest))
-        (begins-after bytes left_bytes (text_of (lines front)) (printed (did_line e) ++ text_of (lines rest)) parts
+        begins-front left_bytes (printed_line (did_line e)) (text_of (lines rest))
+        (begins-after bytes left_bytes (text_of (lines front)) (printed_line (did_line e) ++ text_of (lines rest)) parts
         (subst (BeginsWith bytes) (ap (λ j. text_of (lines j)) is ∙ text-with front e rest) begins))
 
     -- after their lines one more at most was looked at
@@ -220,7 +220,7 @@ module _ {S : Type 0} (s : sources.Ghosts S) (map_view : MapView) (is_map : IsMa
 
     -- the line of a next move was read, and it was run
     pub so-far-next : (next : S) (demo'' : DemoReaderView) (records' : List (Option Rec)) (pending' : List Command) (count' : ℕ) → TakesMove s map_view now next demo' demo'' records records' pending pending'
-        → count' ≡ counted count 1 → MovesSoFar old next demo demo'' records' pending' first count'
+        → count' ≡ count_after count 1 → MovesSoFar old next demo demo'' records' pending' first count'
     so-far-next next demo'' records' pending' count' takes counts =
         let c = takes.c in
         let e = entry_there map_view is_map moves (length so.front) records c in
@@ -238,14 +238,14 @@ module _ {S : Type 0} (s : sources.Ghosts S) (map_view : MapView) (is_map : IsMa
               (so.into (e ∷ rest) (right-cons map_view is_map moves (length so.front) records pending c pending' rest so.ready takes.next
               (subst (λ n. IsRightFrom map_view moves n (records_after map_view records c) pending' rest) more right)));
           out_of = if_some-weaker (ahead_of s demo old) _ _
-              (if_some-both (ahead_of s demo old) _ _ (split-ahead (ahead_of s demo old) (ahead_of s demo' now) (text_of (lines so.front)) (λ bytes. BeginsWith bytes (printed (move_line map_view records c))) so.reads.consumed
+              (if_some-both (ahead_of s demo old) _ _ (split-ahead (ahead_of s demo old) (ahead_of s demo' now) (text_of (lines so.front)) (λ bytes. BeginsWith bytes (printed_line (move_line map_view records c))) so.reads.consumed
               (begins-read (ahead_of s demo' now) (ahead_of s demo'' next) (move_line map_view records c) takes.reads.consumed)) so.out_of)
               (λ bytes has journal right begins. goes-next c takes.next e bytes has.0.left has.0.is has.0.holds journal begins (has.1 journal right begins));
-          count_is = counts ∙ ap (λ n. counted n 1) so.count_is ∙ counted-both first (length so.front) 1 ∙ ap (counted first) (sym more);
+          count_is = counts ∙ ap (λ n. count_after n 1) so.count_is ∙ counted-both first (length so.front) 1 ∙ ap (count_after first) (sym more);
         } in
         subst (λ rs. MovesSoFar old next demo demo'' rs pending' first count') (sym takes.records_are) made
       where
-        begins-read : (a b : Option (List ℕ)) (l : OutLine) → Consumes a b (text_of (l ∷ [])) → IfSome a (λ bytes. BeginsWith bytes (printed l))
+        begins-read : (a b : Option (List ℕ)) (l : OutLine) → Consumes a b (text_of (l ∷ [])) → IfSome a (λ bytes. BeginsWith bytes (printed_line l))
         begins-read None b l reads = tt
         begins-read (Some bytes) None l reads = absurd reads
         begins-read (Some bytes) (Some left) l reads = record { after = left; is = reads ∙ ap (λ t. t ++ left) (text_of-one l) }
@@ -257,10 +257,10 @@ module _ {S : Type 0} (s : sources.Ghosts S) (map_view : MapView) (is_map : IsMa
             no-parts [] d after same = cc
             no-parts (x ∷ before) d after same = cc
 
-        same-line : (left_bytes : List ℕ) (l k : OutLine) → BeginsWith left_bytes (printed l) → BeginsWith left_bytes (printed k) → spelled l ≡ spelled k
+        same-line : (left_bytes : List ℕ) (l k : OutLine) → BeginsWith left_bytes (printed_line l) → BeginsWith left_bytes (printed_line k) → line_spelling l ≡ line_spelling k
         same-line left_bytes l k one two =
-            (same_line (spelled l) (spelled k) one.after two.after (one_line l) (one_line k)
-            (sym (append_assoc (spelled l) (10 ∷ []) one.after) ∙ sym one.is ∙ two.is ∙ append_assoc (spelled k) (10 ∷ []) two.after)).line_is
+            (same_line (line_spelling l) (line_spelling k) one.after two.after (one_line l) (one_line k)
+            (sym (append_assoc (line_spelling l) (10 ∷ []) one.after) ∙ sym one.is ∙ two.is ∙ append_assoc (line_spelling k) (10 ∷ []) two.after)).line_is
 
         goes-same : (c d : Command) (left other : List Command) (journal rest : List Entry) → IsOne c d left other → journal ≡ so.front ++ entry_there map_view is_map moves (length so.front) records d ∷ rest
             → IsRightFrom map_view moves (length so.front + 1) (records_after map_view records d) other rest
@@ -276,7 +276,7 @@ module _ {S : Type 0} (s : sources.Ghosts S) (map_view : MapView) (is_map : IsMa
                   (subst (λ x. IsRightFrom map_view moves (length so.front + 1) (records_after map_view records x) other rest) (sym one.command) right));
             }
 
-        goes-next : (c : Command) (is : IsNextOf pending c pending') (e : Entry) (bytes left_bytes : List ℕ) → bytes ≡ text_of (lines so.front) ++ left_bytes → BeginsWith left_bytes (printed (move_line map_view records c))
+        goes-next : (c : Command) (is : IsNextOf pending c pending') (e : Entry) (bytes left_bytes : List ℕ) → bytes ≡ text_of (lines so.front) ++ left_bytes → BeginsWith left_bytes (printed_line (move_line map_view records c))
             → (journal : List Entry) → BeginsWith bytes (text_of (lines journal)) → GoesOnWith records pending so.front journal
             → GoesOnWith (records_after map_view records c) pending' (so.front ++ entry_there map_view is_map moves (length so.front) records c ∷ []) journal
         goes-next c is e bytes left_bytes parts here journal begins goes =

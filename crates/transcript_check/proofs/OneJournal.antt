@@ -11,7 +11,7 @@ use Rattle.plain_server.specs.Frames.{received_in, moved_by, state_after, IsRigh
 use Rattle.plain_server.proofs.Frames.{received_is, state_after_is}
 use Rattle.out_text.specs.Dids.{Did, did_of, entry_at}
 use Rattle.out_text.specs.FrameLines.{did_line, to_lines, lines_with, run_lines}
-use Rattle.out_text.specs.OutLines.{OutLine, spelled, printed, text_of}
+use Rattle.out_text.specs.OutLines.{OutLine, line_spelling, printed_line, text_of}
 use Rattle.out_text.specs.Ranges.{IsInRange}
 use Rattle.out_text.specs.Transcripts.{BeginsWith}
 use Rattle.out_text.proofs.LinesRead as lines_read
@@ -42,8 +42,8 @@ same-entry place e d is also same =
     let dids : ◌≡◌ {A = Did} (did_of e) (did_of d) = cc in
     sym (entry-is place e is) ∙ ap (entry_at place) dids ∙ entry-is place d also
 
-text-next : (l : OutLine) (more : List OutLine) (after : List ℕ) → text_of (l ∷ more) ++ after ≡ spelled l ++ 10 ∷ (text_of more ++ after)
-text-next l more after = append_assoc (printed l) (text_of more) after ∙ append_assoc (spelled l) (10 ∷ []) (text_of more ++ after)
+text-next : (l : OutLine) (more : List OutLine) (after : List ℕ) → text_of (l ∷ more) ++ after ≡ line_spelling l ++ 10 ∷ (text_of more ++ after)
+text-next l more after = append_assoc (printed_line l) (text_of more) after ∙ append_assoc (line_spelling l) (10 ∷ []) (text_of more ++ after)
 
 -- two journals of as many entries, the lines of which are there
 same-journal : (place : ℕ) (es ds : List Entry) (bytes : List ℕ) → AreReported place es → AreReported place ds → length es ≡ length ds
@@ -56,9 +56,9 @@ same-journal place (e ∷ es) (d ∷ ds) bytes are also same one two =
     let k = did_line d in
     let later = text_of (map did_line es) ++ one.after in
     let follows = text_of (map did_line ds) ++ two.after in
-    let both : spelled l ++ 10 ∷ later ≡ spelled k ++ 10 ∷ follows =
+    let both : line_spelling l ++ 10 ∷ later ≡ line_spelling k ++ 10 ∷ follows =
     sym (text-next l (map did_line es) one.after) ∙ sym one.is ∙ two.is ∙ text-next k (map did_line ds) two.after in
-    let first = same_line (spelled l) (spelled k) later follows (one_line l) (one_line k) both in
+    let first = same_line (line_spelling l) (line_spelling k) later follows (one_line l) (one_line k) both in
     let entry = same-entry place e d are.0 also.0 (lines_read.one_line l k (did-in_range place e are.0) (did-in_range place d also.0) first.line_is) in
     let long : length es ≡ length ds = cc in
     let rest = same-journal (place + 1) es ds later are.1 also.1 long (record { after = one.after; is = refl }) (record { after = two.after; is = first.rest_is }) in

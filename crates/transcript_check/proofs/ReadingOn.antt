@@ -9,19 +9,19 @@ use Rattle.demo_lines.specs.declared.rest.TheConstants.{LONGEST_REST}
 use Rattle.demo_lines.specs.declared.demo_stop.DemoStop.{DemoStop}
 use Rattle.demo_lines.specs.Reads.{DemoReaderView}
 use Rattle.demo_lines.specs.Rest.{HasRest, HasNoRestLine, TakesLineAtMost}
-use Rattle.out_text.specs.OutLines.{OutLine, spelled, printed, text_of}
+use Rattle.out_text.specs.OutLines.{OutLine, line_spelling, printed_line, text_of}
 use Rattle.out_text.specs.Transcripts.{BeginsWith}
 use Rattle.out_text.proofs.Runs.{text_of-append}
-use Rattle.transcript_check.specs.Reading.{counted, ahead_of, IsNeeded, GoesOn, ReadsLine, ReadsLines, ReadsOneAtMost, ReadsBeginning, Misses, ReadFails}
+use Rattle.transcript_check.specs.Reading.{count_after, ahead_of, IsNeeded, GoesOn, ReadsLine, ReadsLines, ReadsOneAtMost, ReadsBeginning, Misses, ReadFails}
 use Rattle.transcript_check.proofs.Texts.{missed-none, missed-other, missed-after, missed-front, missed-one}
 
 -- counts add up
-pub counted-both : (n a b : ℕ) → counted (counted n a) b ≡ counted n (a + b)
-counted-both n zero b = ap (counted n) (let same : b ≡ 0 + b = omega arith in same)
-counted-both n (suc a) zero = ap (counted n) (let same : suc a ≡ suc a + 0 = omega arith in same)
+pub counted-both : (n a b : ℕ) → count_after (count_after n a) b ≡ count_after n (a + b)
+counted-both n zero b = ap (count_after n) (let same : b ≡ 0 + b = omega arith in same)
+counted-both n (suc a) zero = ap (count_after n) (let same : suc a ≡ suc a + 0 = omega arith in same)
 counted-both n (suc a) (suc b) =
     let both : min (min (n + suc a) (2 ^ 64 - 1) + suc b) (2 ^ 64 - 1) ≡ min (n + suc (a + suc b)) (2 ^ 64 - 1) = omega arith in
-    both ∙ ap (counted n) (let same : suc (a + suc b) ≡ suc a + suc b = omega arith in same)
+    both ∙ ap (count_after n) (let same : suc (a + suc b) ≡ suc a + suc b = omega arith in same)
 
 module _ {S : Type 0} (s : sources.Ghosts S) where
   pub on-none : (old : S) (demo : DemoReaderView) → HasRest demo (ahead_of s demo old) → GoesOn s old old demo demo
@@ -62,7 +62,7 @@ module _ {S : Type 0} (s : sources.Ghosts S) where
   pub misses-front : (a c : S) (d : DemoReaderView) (xs ys : List OutLine) → Misses s a c d (λ bytes. BeginsWith bytes (text_of xs) → ⊥) → Misses s a c d (λ bytes. BeginsWith bytes (text_of (xs ++ ys)) → ⊥)
   misses-front a c d xs ys one = record { missed = missed-front (ahead_of s d a) xs ys one.missed; uncounted = one.uncounted }
 
-  pub misses-one : (a c : S) (d : DemoReaderView) (l : OutLine) → Misses s a c d (λ bytes. BeginsWith bytes (printed l) → ⊥) → Misses s a c d (λ bytes. BeginsWith bytes (text_of (l ∷ [])) → ⊥)
+  pub misses-one : (a c : S) (d : DemoReaderView) (l : OutLine) → Misses s a c d (λ bytes. BeginsWith bytes (printed_line l) → ⊥) → Misses s a c d (λ bytes. BeginsWith bytes (text_of (l ∷ [])) → ⊥)
   misses-one a c d l one = record { missed = missed-one (ahead_of s d a) l one.missed; uncounted = one.uncounted }
 
   -- a read that fails after lines
@@ -71,17 +71,17 @@ module _ {S : Type 0} (s : sources.Ghosts S) where
     is = fails.is;
     not_cut = sym one.cut ∙ fails.not_cut;
     before_end = fails.before_end ∙ one.before_end;
-    cause = subst (λ (n : ℕ). HasRisen n (s.faults c)) one.uncounted fails.cause;
+    fault = subst (λ (n : ℕ). HasRisen n (s.faults c)) one.uncounted fails.fault;
     later = subst (λ (n : ℕ). n ≤ s.faults c) one.uncounted fails.later;
     fails = λ sure. fails.fails (one.keeps sure);
   }
 
   -- another one was read
-  pub misses-other : (a b : S) (d e : DemoReaderView) (given : List ℕ) (l : OutLine) → ReadsLine s a b d e given → (given ≡ spelled l → ⊥) → Misses s a b d (λ bytes. BeginsWith bytes (printed l) → ⊥)
+  pub misses-other : (a b : S) (d e : DemoReaderView) (given : List ℕ) (l : OutLine) → ReadsLine s a b d e given → (given ≡ line_spelling l → ⊥) → Misses s a b d (λ bytes. BeginsWith bytes (printed_line l) → ⊥)
   misses-other a b d e given l one other = record { missed = missed-other (ahead_of s d a) (ahead_of s e b) given l one.gives other; uncounted = one.on.uncounted }
 
   -- none was there
-  pub misses-none : (a b : S) (d : DemoReaderView) (l : OutLine) → Misses s a b d HasNoRestLine → length (spelled l) ≤ LONGEST_REST → Misses s a b d (λ bytes. BeginsWith bytes (printed l) → ⊥)
+  pub misses-none : (a b : S) (d : DemoReaderView) (l : OutLine) → Misses s a b d HasNoRestLine → length (line_spelling l) ≤ LONGEST_REST → Misses s a b d (λ bytes. BeginsWith bytes (printed_line l) → ⊥)
   misses-none a b d l none short = record { missed = missed-none (ahead_of s d a) l none.missed short; uncounted = none.uncounted }
 
 -- the first of these lines were read, and those are left
@@ -89,7 +89,7 @@ pub record ReadsSome {S : Type 0} (s : sources.Ghosts S) (old now : S) (demo dem
   pub front : List OutLine
   pub reads : ReadsLines s old now demo demo' front
   pub all_are : all ≡ front ++ left
-  pub count_is : count ≡ counted first (length front)
+  pub count_is : count ≡ count_after first (length front)
 
 module _ {S : Type 0} (s : sources.Ghosts S) where
   pub some-first : (old : S) (demo : DemoReaderView) (count : ℕ) (all left : List OutLine) → HasRest demo (ahead_of s demo old) → all ≡ left → ReadsSome s old old demo demo count count all left
@@ -97,13 +97,13 @@ module _ {S : Type 0} (s : sources.Ghosts S) where
 
   -- lines more
   pub some-next : (a b c : S) (d e f : DemoReaderView) (first count count' : ℕ) (all more left : List OutLine) → ReadsSome s a b d e first count all (more ++ left) → ReadsLines s b c e f more
-      → count' ≡ counted count (length more) → ReadsSome s a c d f first count' all left
+      → count' ≡ count_after count (length more) → ReadsSome s a c d f first count' all left
   some-next a b c d e f first count count' all more left some reads counts = record {
     front = some.front ++ more;
     reads = reads-both s a b c d e f some.front more some.reads reads;
     all_are = some.all_are ∙ sym (append_assoc some.front more left);
-    count_is = counts ∙ ap (λ n. counted n (length more)) some.count_is ∙ counted-both first (length some.front) (length more)
-        ∙ ap (counted first) (sym (length-append some.front more));
+    count_is = counts ∙ ap (λ n. count_after n (length more)) some.count_is ∙ counted-both first (length some.front) (length more)
+        ∙ ap (count_after first) (sym (length-append some.front more));
   }
 
   -- they are missed
@@ -118,9 +118,9 @@ module _ {S : Type 0} (s : sources.Ghosts S) where
   some-all a b d e first count all left none some =
       subst (ReadsLines s a b d e) (sym (some.all_are ∙ ap (λ ls. some.front ++ ls) none ∙ append-nil some.front)) some.reads
 
-  pub some-count : (a b : S) (d e : DemoReaderView) (first count : ℕ) (all left : List OutLine) → left ≡ [] → ReadsSome s a b d e first count all left → count ≡ counted first (length all)
+  pub some-count : (a b : S) (d e : DemoReaderView) (first count : ℕ) (all left : List OutLine) → left ≡ [] → ReadsSome s a b d e first count all left → count ≡ count_after first (length all)
   some-count a b d e first count all left none some =
-      some.count_is ∙ ap (λ ls. counted first (length ls)) (sym (some.all_are ∙ ap (λ ls. some.front ++ ls) none ∙ append-nil some.front))
+      some.count_is ∙ ap (λ ls. count_after first (length ls)) (sym (some.all_are ∙ ap (λ ls. some.front ++ ls) none ∙ append-nil some.front))
 
 -- ---- what was looked at
 

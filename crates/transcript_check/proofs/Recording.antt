@@ -20,7 +20,7 @@ use Rattle.demo_lines.proofs.Machines.{run_of-append}
 use Rattle.demo_lines.proofs.Joins.{Reads-trans}
 use Rattle.demo_lines.proofs.Consumed.{cut_end_after, refusal_on}
 use Rattle.demo_lines.proofs.Continuing.{continues}
-use Rattle.out_text.specs.Collecting.{Frames, collect, collected, no_frames}
+use Rattle.out_text.specs.Collecting.{Frames, collect, frames_of_events, no_frames}
 use Rattle.transcript_check.specs.Reading.{ahead_of}
 use Rattle.transcript_check.specs.Recorded.{is_last, ReadsRecording}
 use Rattle.transcript_check.specs.Verdicts.{StopsChecking}
@@ -46,7 +46,7 @@ map-there old new has keeps = by (is_map_whole old.stage) refl
     by false e = keeps.completed e
 
 -- one event more
-collected-push : (es : List Event) (e : Event) (before after : Frames) → before ≡ collected es → after ≡ collect before e → after ≡ collected (es ++ e ∷ [])
+collected-push : (es : List Event) (e : Event) (before after : Frames) → before ≡ frames_of_events es → after ≡ collect before e → after ≡ frames_of_events (es ++ e ∷ [])
 collected-push es e before after so_far is =
     is ∙ ap (λ (f : Frames). collect f e) so_far ∙ sym (run_of-append {E = Event} collect (λ _ _. []) no_frames es (e ∷ []))
 
@@ -66,7 +66,7 @@ module _ {S : Type 0} (s : sources.Ghosts S) (limit : ℕ) where
   pub record ReadsOn (first now : S) (demo : DemoReaderView) (frames : Frames) : Type 0 where
     pub events : List Event
     pub reads : Reads (start_within limit) demo.reading (s.left first) (ahead_of s demo now) events
-    pub frames_are : frames ≡ collected events
+    pub frames_are : frames ≡ frames_of_events events
     pub is_open : IsOpen demo
     pub not_cut : demo.cut ≡ false
     pub unread : HasNotReadAhead first now (s.last now) [] demo.pending
@@ -175,7 +175,7 @@ module _ {S : Type 0} (s : sources.Ghosts S) (limit : ℕ) where
         }
     stops demo_stop.ReadFault given = record {
       before_end = given.read_fault.no_end ∙ on.before_end;
-      cause = subst (λ (n : ℕ). HasRisen n (s.faults next)) on.uncounted (given.read_fault.cause on.is_open);
+      fault = subst (λ (n : ℕ). HasRisen n (s.faults next)) on.uncounted (given.read_fault.fault on.is_open);
       later = subst (λ (n : ℕ). n ≤ s.faults next) on.uncounted given.later;
       fails = λ sure. given.read_fault.sure on.is_open (on.keeps sure);
     }

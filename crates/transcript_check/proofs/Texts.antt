@@ -6,13 +6,13 @@ use Rattle.std.proofs.lemmas.List.Elements.{All-head, All-tail}
 use Rattle.edge_io.specs.Lines.{HasNoLineFeed}
 use Rattle.demo_lines.specs.declared.rest.TheConstants.{LONGEST_REST}
 use Rattle.demo_lines.specs.Rest.{GivesRestLine, HasNoRestLine}
-use Rattle.out_text.specs.OutLines.{OutLine, spelled, printed, text_of}
+use Rattle.out_text.specs.OutLines.{OutLine, line_spelling, printed_line, text_of}
 use Rattle.out_text.specs.Transcripts.{BeginsWith}
 use Rattle.out_text.proofs.Runs.{text_of-append}
 use Rattle.out_text.proofs.Quiet.{each_unbroken}
 
 -- a line has no line feed
-pub one_line : (l : OutLine) → HasNoLineFeed (spelled l)
+pub one_line : (l : OutLine) → HasNoLineFeed (line_spelling l)
 one_line l = (each_unbroken (l ∷ [])).0
 
 -- where two lines begin the same bytes, they are the same, and so is what follows
@@ -39,28 +39,28 @@ same_line (b ∷ line) (d ∷ other) after rest one two same =
     record { line_is = (λ i. first i ∷ is.line_is i); rest_is = is.rest_is }
 
 -- a line that is printed, before more
-printed-before : (l : OutLine) (after : List ℕ) → printed l ++ after ≡ spelled l ++ 10 ∷ after
-printed-before l after = append_assoc (spelled l) (10 ∷ []) after
+printed-before : (l : OutLine) (after : List ℕ) → printed_line l ++ after ≡ line_spelling l ++ 10 ∷ after
+printed-before l after = append_assoc (line_spelling l) (10 ∷ []) after
 
 -- one line as text
-pub text_of-one : (l : OutLine) → text_of (l ∷ []) ≡ printed l
-text_of-one l = append-nil (printed l)
+pub text_of-one : (l : OutLine) → text_of (l ∷ []) ≡ printed_line l
+text_of-one l = append-nil (printed_line l)
 
 -- ---- what was ahead
 
 -- no line was there
-pub missed-none : (a : Option (List ℕ)) (l : OutLine) → IfSome a HasNoRestLine → length (spelled l) ≤ LONGEST_REST → IfSome a (λ bytes. BeginsWith bytes (printed l) → ⊥)
+pub missed-none : (a : Option (List ℕ)) (l : OutLine) → IfSome a HasNoRestLine → length (line_spelling l) ≤ LONGEST_REST → IfSome a (λ bytes. BeginsWith bytes (printed_line l) → ⊥)
 missed-none None l none short = tt
-missed-none (Some bytes) l none short = λ begins. none (spelled l) begins.after (one_line l) short (begins.is ∙ printed-before l begins.after)
+missed-none (Some bytes) l none short = λ begins. none (line_spelling l) begins.after (one_line l) short (begins.is ∙ printed-before l begins.after)
 
 -- another line was there
-pub missed-other : (a b : Option (List ℕ)) (given : List ℕ) (l : OutLine) → GivesRestLine a b given → (given ≡ spelled l → ⊥) → IfSome a (λ bytes. BeginsWith bytes (printed l) → ⊥)
+pub missed-other : (a b : Option (List ℕ)) (given : List ℕ) (l : OutLine) → GivesRestLine a b given → (given ≡ line_spelling l → ⊥) → IfSome a (λ bytes. BeginsWith bytes (printed_line l) → ⊥)
 missed-other None b given l gives other = tt
 missed-other (Some bytes) None given l gives other = absurd gives.consumed
 missed-other (Some bytes) (Some left) given l gives other = λ begins.
-    let both : given ++ 10 ∷ left ≡ spelled l ++ 10 ∷ begins.after =
+    let both : given ++ 10 ∷ left ≡ line_spelling l ++ 10 ∷ begins.after =
     sym (append_assoc given (10 ∷ []) left) ∙ sym gives.consumed ∙ begins.is ∙ printed-before l begins.after in
-    other (same_line given (spelled l) left begins.after gives.one_line (one_line l) both).line_is
+    other (same_line given (line_spelling l) left begins.after gives.one_line (one_line l) both).line_is
 
 -- ---- fronts
 
@@ -116,7 +116,7 @@ pub missed-front : (a : Option (List ℕ)) (front more : List OutLine) → IfSom
 missed-front a front more missed =
     if_some-weaker a _ _ missed (λ bytes none begins. none (begins-front bytes (text_of front) (text_of more) (subst (BeginsWith bytes) (text_of-append front more) begins)))
 
-pub missed-one : (a : Option (List ℕ)) (l : OutLine) → IfSome a (λ bytes. BeginsWith bytes (printed l) → ⊥) → IfSome a (λ bytes. BeginsWith bytes (text_of (l ∷ [])) → ⊥)
+pub missed-one : (a : Option (List ℕ)) (l : OutLine) → IfSome a (λ bytes. BeginsWith bytes (printed_line l) → ⊥) → IfSome a (λ bytes. BeginsWith bytes (text_of (l ∷ [])) → ⊥)
 missed-one a l missed = if_some-weaker a _ _ missed (λ bytes none begins. none (subst (BeginsWith bytes) (text_of-one l) begins))
 
 -- ---- what holds where an answer is false

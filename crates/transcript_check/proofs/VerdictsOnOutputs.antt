@@ -6,7 +6,7 @@ use Rattle.demo_lines.specs.declared.event.Event.{Event}
 use Rattle.demo_lines.specs.Bytes.{fault_within}
 use Rattle.demo_lines.proofs.Limited.{limits_cut_nothing}
 use Rattle.plain_server.specs.RecordsById.{opening}
-use Rattle.out_text.specs.Collecting.{collected, frames_within, frames_of}
+use Rattle.out_text.specs.Collecting.{frames_of_events, frames_within, frames_of}
 use Rattle.out_text.specs.Transcripts.{IsTranscript, run_moves}
 use Rattle.transcript_check.specs.declared.verdict.Verdict.TheVariants.{Right, Wrong}
 use Rattle.transcript_check.specs.Verdicts.{IsJudged}
@@ -15,7 +15,7 @@ use Rattle.transcript_check.proofs.OutputsChecked.{exclude, outputs_right, right
 
 -- the frames are the same with the limit
 pub same_frames : (limit : ℕ) (bytes : List ℕ) → limit ≤ MOST_FRAMES → fault_within limit bytes ≡ None → frames_of bytes ≡ frames_within limit bytes
-same_frames limit bytes low none = ap (λ (es : List Event). (collected es).closed) (limits_cut_nothing.same limit bytes low none).events
+same_frames limit bytes low none = ap (λ (es : List Event). (frames_of_events es).closed) (limits_cut_nothing.same limit bytes low none).events
 
 right_verdict : (workers limit count moves : ℕ) (bytes : List ℕ) (is : IsJudged limit (Right count moves) bytes) → (workers ≡ 1 → ⊥) → limit ≤ MOST_FRAMES → BeginsWithOutput workers bytes is.rest
 right_verdict workers limit count moves bytes is many low =

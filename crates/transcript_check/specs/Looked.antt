@@ -11,7 +11,7 @@ use Rattle.plain_server.specs.Frames.{AreRight}
 use Rattle.demo_lines.specs.Known.{start_within}
 use Rattle.demo_lines.specs.Recording.{after, events_of}
 use Rattle.demo_lines.specs.Consumed.{ReadsToEnd}
-use Rattle.out_text.specs.Collecting.{collected}
+use Rattle.out_text.specs.Collecting.{frames_of_events}
 use Rattle.out_text.specs.OutLines.{OutLine, EndLine, text_of}
 use Rattle.out_text.specs.FrameLines.{run_lines}
 use Rattle.transcript_check.specs.declared.verdict.Verdict.{Verdict}
@@ -53,7 +53,7 @@ pub record ReadsTranscript {S : Type 0} (s : sources.Ghosts S) (limit : ℕ) (so
   pub map : MapView
   pub map_is : (after (start_within limit) recording.lines).map ≡ Some map
   pub buffered : List ℕ
-  pub looks : Looks map (collected (events_of (start_within limit) recording.lines)).closed
+  pub looks : Looks map (frames_of_events (events_of (start_within limit) recording.lines)).closed
       (ahead recording.buffered (s.left between)) (ahead buffered (s.left source'))
       (HasNotReadAhead between source' (s.last source') recording.buffered buffered × (s.ended source' ≡ s.ended between))
       (s.ended source' ≡ true)

@@ -16,10 +16,10 @@ use Rattle.plain_server.specs.Moving.{effect_among, records_after}
 use Rattle.out_text.specs.Dids.{did_of}
 use Rattle.client_ports.specs.Lists.{Lists}
 use Rattle.out_text.specs.FrameLines.{did_line, frame_lines}
-use Rattle.out_text.specs.OutLines.{OutLine, DidLine, spelled, printed}
+use Rattle.out_text.specs.OutLines.{OutLine, DidLine, line_spelling, printed_line}
 use Rattle.out_text.specs.Ranges.{IsInRange}
 use Rattle.out_text.specs.Transcripts.{BeginsWith}
-use Rattle.transcript_check.specs.Reading.{counted, ReadsLines}
+use Rattle.transcript_check.specs.Reading.{count_after, ReadsLines}
 use Rattle.transcript_check.specs.Pieces.{ReadsJournal}
 
 -- the record is another one than that of this slot
@@ -41,26 +41,26 @@ move_line map records c = DidLine (did_of (entry_of 0 c (effect_among map record
 -- the line is one that can be read: it is in range, and not too long
 pub record IsReadable (line : OutLine) : Type 0 where
   pub in_range : IsInRange line
-  pub short : length (spelled line) ≤ LONGEST_REST
+  pub short : length (line_spelling line) ≤ LONGEST_REST
 
 -- the bytes don't begin with the line of any move that is the next one of its player
 abbrev pub IsNoMove : MapView → List (Option Rec) → List Command → List ℕ → Type 0
 IsNoMove map records pending bytes =
     (c : Command) (left : List Command) → IsNextOf pending c left → IsReadable (move_line map records c)
-    → BeginsWith bytes (printed (move_line map records c)) → ⊥
+    → BeginsWith bytes (printed_line (move_line map records c)) → ⊥
 
 -- this is the line of a move that is the next one of its player, and the move was run
 pub record ReportsMove (map : MapView) (line : List ℕ) (records records' : List (Option Rec)) (pending pending' : List Command) : Type 0 where
   pub c : Command
   pub next : IsNextOf pending c pending'
-  pub line_is : line ≡ spelled (move_line map records c)
+  pub line_is : line ≡ line_spelling (move_line map records c)
   pub records_are : records' ≡ records_after map records c
 
 -- it is that of none
 abbrev pub ReportsNone : MapView → List ℕ → List (Option Rec) → List Command → Type 0
 ReportsNone map line records pending =
     (c : Command) (left : List Command) → IsNextOf pending c left → IsReadable (move_line map records c)
-    → line ≡ spelled (move_line map records c) → ⊥
+    → line ≡ line_spelling (move_line map records c) → ⊥
 
 -- the line of a move that is the next one of its player was read, and the move was run
 pub record TakesMove {S : Type 0} (s : sources.Ghosts S) (map : MapView) (old new : S) (demo demo' : DemoReaderView)
@@ -76,7 +76,7 @@ pub record RunsMoves {S : Type 0} (s : sources.Ghosts S) (map : MapView) (old ne
   pub journal : List Entry
   pub reads : ReadsJournal s old new demo demo' (IsRight (outcome_on map) (world_of records) moves) (map_list did_line) journal
   pub records_are : records' ≡ records_in (run (outcome_on map) (world_of records) (history_of moves journal)) records
-  pub count_is : count' ≡ counted count (length journal)
+  pub count_is : count' ≡ count_after count (length journal)
 
 -- the records after these moves have run in the order of a journal
 abbrev pub moved_in : MapView → List (Option Rec) → List Command → List Entry → List (Option Rec)
@@ -92,4 +92,4 @@ pub record RunsFrame {S : Type 0} (s : sources.Ghosts S) (map : MapView) (frame 
   pub journal : List Entry
   pub reads : ReadsJournal s old new demo demo' (IsRight (outcome_on map) (world_of records) lists.moves) (lines_among map frame records lists) journal
   pub records_are : records' ≡ moved_in map records lists.moves journal
-  pub count_is : count' ≡ counted count (length (lines_among map frame records lists journal))
+  pub count_is : count' ≡ count_after count (length (lines_among map frame records lists journal))

@@ -10,7 +10,7 @@ use Rattle.out_text.specs.FrameLines.{no_line, joined_line, lines_with}
 use Rattle.out_text.specs.OutLines.{OutLine, FrameLine, text_of}
 use Rattle.out_text.specs.Transcripts.{BeginsWith}
 use Rattle.client_ports.specs.declared.received.TheConstants.{MOST_FRAME_MOVES}
-use Rattle.transcript_check.specs.Reading.{counted, ahead_of, ReadsLines}
+use Rattle.transcript_check.specs.Reading.{count_after, ahead_of, ReadsLines}
 use Rattle.transcript_check.specs.Checkers.{CheckerView, IsChecker}
 
 -- the lines of a right journal were read, and no other right journal has its lines there
@@ -46,7 +46,7 @@ pub record TakesFrame {S : Type 0} (s : sources.Ghosts S) (old new : S) (demo de
     pub frames_are : c'.frames ≡ c.frames + 1
     pub moves_are : c'.moves ≡ c.moves + length (received_in c.map c.frames c.state arrivals).lists.moves
     pub count_is : c'.count
-        ≡ counted c.count (length (lines_with c.map c.frames (received_in c.map c.frames c.state arrivals) journal))
+        ≡ count_after c.count (length (lines_with c.map c.frames (received_in c.map c.frames c.state arrivals) journal))
     pub is : IsChecker c'.map c'.state
     pub few : length (lines_with c.map c.frames (received_in c.map c.frames c.state arrivals) journal) ≤ 2000
     pub moves_few : length (received_in c.map c.frames c.state arrivals).lists.moves ≤ MOST_FRAME_MOVES

@@ -18,9 +18,9 @@ pub record LinesView : Type 0 where
   pub count : ℕ
 
 -- a count of lines after so many more; it stops at 2^64 - 1
-abbrev pub counted : ℕ → ℕ → ℕ
-counted count zero = count
-counted count (suc more) = min (count + suc more) (2 ^ 64 - 1)
+abbrev pub count_after : ℕ → ℕ → ℕ
+count_after count zero = count
+count_after count (suc more) = min (count + suc more) (2 ^ 64 - 1)
 
 -- the first of some lines that are wanted were taken off what was ahead, and then one line at most
 pub record TakesBeginning (Wanted : List OutLine → Type 0) (old new : Option (List ℕ)) (P Q : Type 0) : Type 0 where
@@ -82,6 +82,6 @@ module _ {S : Type 0} (s : sources.Ghosts S) where
     pub is : stop ≡ demo_stop.ReadFault
     pub not_cut : demo.cut ≡ false
     pub before_end : s.ended new ≡ s.ended old
-    pub cause : HasRisen (s.faults old) (s.faults new)
+    pub fault : HasRisen (s.faults old) (s.faults new)
     pub later : s.faults old ≤ s.faults new
     pub fails : s.never_fails old → ⊥

@@ -9,7 +9,7 @@ use Rattle.demo_lines.specs.Known.{start_within}
 use Rattle.demo_lines.specs.Readings.{IsReading}
 use Rattle.demo_lines.specs.Reads.{DemoReaderView, Reads, TakesCutEnd}
 use Rattle.demo_lines.specs.Rest.{HasRest}
-use Rattle.out_text.specs.Collecting.{Frames, collected}
+use Rattle.out_text.specs.Collecting.{Frames, frames_of_events}
 use Rattle.transcript_check.specs.Reading.{ahead_of}
 
 -- the event is the recording's end
@@ -22,7 +22,7 @@ is_last End = true
 pub record ReadsRecording {S : Type 0} (s : sources.Ghosts S) (limit : ℕ) (source source' : S) (demo : DemoReaderView) (frames : Frames) : Type 0 where
   pub events : List Event
   pub reads : Reads (start_within limit) demo.reading (s.left source) (ahead_of s demo source') events
-  pub frames_are : frames ≡ collected events
+  pub frames_are : frames ≡ frames_of_events events
   pub ended : demo.reading.stage ≡ Ended
   pub may : HasRest demo (ahead_of s demo source')
   pub before_end : demo.cut ≡ false → s.ended source' ≡ s.ended source

@@ -86,7 +86,7 @@ module _ {S : Type 0} (s : sources.Ghosts S) (limit : ℕ) (source source' : S) 
   -- the source failed, before it told its end
   pub record FailsToRead : Type 0 where
     pub before_end : s.ended source' ≡ s.ended source
-    pub cause : HasRisen (s.faults source) (s.faults source')
+    pub fault : HasRisen (s.faults source) (s.faults source')
     pub later : s.faults source ≤ s.faults source'
     pub fails : s.never_fails source → ⊥
 

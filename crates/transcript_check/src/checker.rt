@@ -15,7 +15,7 @@ ghost use Rattle.out_text.specs.OutLines.{text_of};
 ghost use Rattle.out_text.specs.Printing.{line_of};
 ghost use Rattle.out_text.specs.Ranges.{HasRoom};
 ghost use Rattle.out_text.specs.Transcripts.{BeginsWith};
-ghost use Rattle.transcript_check.specs.Reading.{counted, ahead_of, ReadsLines, Misses, ReadFails};
+ghost use Rattle.transcript_check.specs.Reading.{count_after, ahead_of, ReadsLines, Misses, ReadFails};
 ghost use Rattle.transcript_check.specs.Reading.{ReadsOneAtMost, ReadsBeginning};
 ghost use Rattle.transcript_check.specs.Moves as specs;
 ghost use Rattle.transcript_check.specs.Moves.{IsNoMove, TakesMove, RunsMoves, lines_among, RunsFrame};
@@ -105,7 +105,7 @@ fn expect_move<S: Source>(
         (IsNoMove (map_in mover.old.action) world.old.records pending.old))) }
     ensures looked { IfOk result (λ is. OnFalse is
         (ReadsOneAtMost S.Source source.old source.new reader.old reader.new)) }
-    ensures count { IfOk result (λ is. OnTrue is (lines.new.count ≡ counted lines.old.count 1)) }
+    ensures count { IfOk result (λ is. OnTrue is (lines.new.count ≡ count_after lines.old.count 1)) }
     ensures err { IfErr result (ReadFails S.Source source.old source.new reader.old) }
     ensures action { mover.new.action ≡ mover.old.action }
 {
@@ -166,7 +166,7 @@ fn expect_head<S: Source>(
     ensures looked { IfOk result (λ is. OnFalse is (ReadsBeginning S.Source
         (λ lines. lines ≡ head_lines frame received.now.lists) source.old source.new reader.old reader.new)) }
     ensures count { IfOk result (λ is. OnTrue is
-        (lines.new.count ≡ counted lines.old.count (length (head_lines frame received.now.lists)))) }
+        (lines.new.count ≡ count_after lines.old.count (length (head_lines frame received.now.lists)))) }
     ensures err { IfErr result (ReadFails S.Source source.old source.new reader.old) }
 {
     if !lines.expect(&OutLine::Frame(frame), reader, source)? {
@@ -263,7 +263,7 @@ impl Checker {
     ghost use Rattle.demo_lines.specs.declared.stage.Stage.TheVariants.{Ended};
     ghost use Rattle.demo_lines.specs.Rest.{HasRest};
     ghost use Rattle.out_text.specs.FrameLines.{lines_with};
-    ghost use Rattle.out_text.specs.OutLines.{EndLine, printed};
+    ghost use Rattle.out_text.specs.OutLines.{EndLine, printed_line};
     ghost use Rattle.out_text.specs.Transcripts.{BeginsWith};
     ghost use Rattle.client_ports.specs.declared.received.TheConstants.{MOST_FRAME_MOVES};
     ghost use Rattle.transcript_check.specs.Reading.{ahead_of, ReadsLines, ReadsOneAtMost, ReadsBeginning, Misses, ReadFails};
@@ -375,7 +375,7 @@ impl Checker {
         ensures ok { IfOk result (λ is. OnTrue is (ReadsLines S.Source source.old source.new reader.old reader.new
             (EndLine self.old.frames ∷ []))) }
         ensures missed { IfOk result (λ is. OnFalse is (Misses S.Source source.old source.new reader.old
-            (λ bytes. BeginsWith bytes (printed (EndLine self.old.frames)) → ⊥))) }
+            (λ bytes. BeginsWith bytes (printed_line (EndLine self.old.frames)) → ⊥))) }
         ensures looked { IfOk result (λ is. OnFalse is
             (ReadsOneAtMost S.Source source.old source.new reader.old reader.new)) }
         ensures err { IfErr result (ReadFails S.Source source.old source.new reader.old) }

@@ -9,11 +9,11 @@ ghost use Rattle.world_tree.specs.Live.{live_in};
 ghost use Rattle.out_text.specs.Dids.{Did};
 ghost use Rattle.out_text.specs.FrameLines.{to_line, to_lines};
 ghost use Rattle.out_text.specs.OutLines as lines;
-ghost use Rattle.out_text.specs.OutLines.{DidLine, ToLine, printed, spelled, text_of};
+ghost use Rattle.out_text.specs.OutLines.{DidLine, ToLine, printed_line, line_spelling, text_of};
 ghost use Rattle.out_text.specs.Printing.{line_of};
 ghost use Rattle.out_text.specs.Ranges.{HasRoom, IsDidInRange};
 ghost use Rattle.out_text.specs.Transcripts.{BeginsWith};
-ghost use Rattle.transcript_check.specs.Reading.{counted, ahead_of, ReadsLine, ReadsLines, Misses, ReadFails};
+ghost use Rattle.transcript_check.specs.Reading.{count_after, ahead_of, ReadsLine, ReadsLines, Misses, ReadFails};
 ghost use Rattle.transcript_check.specs.Reading.{ReadsOneAtMost, ReadsBeginning};
 
 use demo_lines::{DemoReader, DemoStop, RestBuf};
@@ -97,7 +97,7 @@ impl Lines {
             (Misses S.Source source.old source.new reader.old HasNoRestLine)) }
         ensures looked { IfOk result (λ is. OnFalse is
             (ReadsOneAtMost S.Source source.old source.new reader.old reader.new)) }
-        ensures count { IfOk result (λ is. OnTrue is (self.new.count ≡ counted self.old.count 1)) }
+        ensures count { IfOk result (λ is. OnTrue is (self.new.count ≡ count_after self.old.count 1)) }
         ensures wanted { self.new.wanted ≡ self.old.wanted }
         ensures err { IfErr result (ReadFails S.Source source.old source.new reader.old) }
     {
@@ -112,7 +112,7 @@ impl Lines {
     /// Puts what a line is printed as in the place of the line that is wanted.
     fn want(&mut self, line: &OutLine)
         requires { HasRoom (line_of line.now) }
-        ensures wanted { self.new.wanted ≡ spelled (line_of line.now) }
+        ensures wanted { self.new.wanted ≡ line_spelling (line_of line.now) }
         ensures short { length self.new.wanted ≤ ROOM }
         ensures given { self.new.given ≡ self.old.given }
         ensures count { self.new.count ≡ self.old.count }
@@ -134,8 +134,8 @@ impl Lines {
     /// Whether the line that was read last is this one.
     pub fn is_given(&mut self, line: &OutLine) -> bool
         requires { HasRoom (line_of line.now) }
-        ensures same { OnTrue result (self.old.given ≡ spelled (line_of line.now)) }
-        ensures other { OnFalse result (self.old.given ≡ spelled (line_of line.now) → ⊥) }
+        ensures same { OnTrue result (self.old.given ≡ line_spelling (line_of line.now)) }
+        ensures other { OnFalse result (self.old.given ≡ line_spelling (line_of line.now) → ⊥) }
         ensures count { self.new.count ≡ self.old.count }
     {
         self.want(line);
@@ -151,13 +151,13 @@ impl Lines {
         requires over { reader.old.reading.stage ≡ Ended }
         requires may { HasRest reader.old (ahead_of S.Source reader.old source.old) }
         requires short { length self.old.wanted ≤ ROOM }
-        ensures ok { (line : lines.OutLine) → self.old.wanted ≡ spelled line → IfOk result (λ is. OnTrue is
+        ensures ok { (line : lines.OutLine) → self.old.wanted ≡ line_spelling line → IfOk result (λ is. OnTrue is
             (ReadsLines S.Source source.old source.new reader.old reader.new (line ∷ []))) }
-        ensures missed { (line : lines.OutLine) → self.old.wanted ≡ spelled line → IfOk result (λ is. OnFalse is
-            (Misses S.Source source.old source.new reader.old (λ bytes. BeginsWith bytes (printed line) → ⊥))) }
+        ensures missed { (line : lines.OutLine) → self.old.wanted ≡ line_spelling line → IfOk result (λ is. OnFalse is
+            (Misses S.Source source.old source.new reader.old (λ bytes. BeginsWith bytes (printed_line line) → ⊥))) }
         ensures looked { IfOk result (λ is. OnFalse is
             (ReadsOneAtMost S.Source source.old source.new reader.old reader.new)) }
-        ensures count { IfOk result (λ is. OnTrue is (self.new.count ≡ counted self.old.count 1)) }
+        ensures count { IfOk result (λ is. OnTrue is (self.new.count ≡ count_after self.old.count 1)) }
         ensures err { IfErr result (ReadFails S.Source source.old source.new reader.old) }
     {
         if !self.take(reader, source)? {
@@ -179,10 +179,10 @@ impl Lines {
         ensures ok { IfOk result (λ is. OnTrue is
             (ReadsLines S.Source source.old source.new reader.old reader.new (line_of line.now ∷ []))) }
         ensures missed { IfOk result (λ is. OnFalse is (Misses S.Source source.old source.new reader.old
-            (λ bytes. BeginsWith bytes (printed (line_of line.now)) → ⊥))) }
+            (λ bytes. BeginsWith bytes (printed_line (line_of line.now)) → ⊥))) }
         ensures looked { IfOk result (λ is. OnFalse is
             (ReadsOneAtMost S.Source source.old source.new reader.old reader.new)) }
-        ensures count { IfOk result (λ is. OnTrue is (self.new.count ≡ counted self.old.count 1)) }
+        ensures count { IfOk result (λ is. OnTrue is (self.new.count ≡ count_after self.old.count 1)) }
         ensures err { IfErr result (ReadFails S.Source source.old source.new reader.old) }
     {
         self.want(line);
@@ -204,7 +204,7 @@ impl Lines {
             (λ bytes. BeginsWith bytes (text_of (map T.line items.now)) → ⊥))) }
         ensures looked { IfOk result (λ is. OnFalse is (ReadsBeginning S.Source (λ lines. lines ≡ map T.line items.now)
             source.old source.new reader.old reader.new)) }
-        ensures count { IfOk result (λ is. OnTrue is (self.new.count ≡ counted self.old.count (length items.now))) }
+        ensures count { IfOk result (λ is. OnTrue is (self.new.count ≡ count_after self.old.count (length items.now))) }
         ensures err { IfErr result (ReadFails S.Source source.old source.new reader.old) }
     {
         for item in items {
@@ -218,7 +218,7 @@ impl Lines {
     /// Whose move the line that was read last reports, if it reports one. It is not to be trusted beyond that: only what
     /// running the move comes to shows whether the line is right.
     pub fn reported(&mut self) -> Option<Reported>
-        ensures only { (d : Did) → IsDidInRange d → self.old.given ≡ spelled (DidLine d)
+        ensures only { (d : Did) → IsDidInRange d → self.old.given ≡ line_spelling (DidLine d)
             → result ≡ Some (record { slot = d.slot; seq = d.seq }) }
         ensures given { self.new.given ≡ self.old.given }
         ensures count { self.new.count ≡ self.old.count }
@@ -230,7 +230,7 @@ impl Lines {
     /// Puts the line of a snapshot, which was written for this slot, in the place of the line that is wanted.
     fn want_reply(&mut self, slot: u8)
         requires some { 1 ≤ length self.old.bytes }
-        ensures wanted { self.new.wanted ≡ spelled (ToLine slot self.old.bytes) }
+        ensures wanted { self.new.wanted ≡ line_spelling (ToLine slot self.old.bytes) }
         ensures short { length self.new.wanted ≤ ROOM }
         ensures count { self.new.count ≡ self.old.count }
     {
@@ -260,7 +260,7 @@ impl Lines {
         ensures looked { IfOk result (λ is. OnFalse is
             (ReadsOneAtMost S.Source source.old source.new reader.old reader.new)) }
         ensures count { IfOk result (λ is. OnTrue is
-            (self.new.count ≡ counted self.old.count (length (option_to_list (record_of world.now slot))))) }
+            (self.new.count ≡ count_after self.old.count (length (option_to_list (record_of world.now slot))))) }
         ensures err { IfErr result (ReadFails S.Source source.old source.new reader.old) }
     {
         let Some(_player) = world.get(u16::from(slot)) else {
@@ -289,7 +289,7 @@ impl Lines {
         ensures looked { IfOk result (λ is. OnFalse is (ReadsBeginning S.Source
             (λ lines. lines ≡ to_lines frame world.now.records) source.old source.new reader.old reader.new)) }
         ensures count { IfOk result (λ is. OnTrue is
-            (self.new.count ≡ counted self.old.count (length (to_lines frame world.now.records)))) }
+            (self.new.count ≡ count_after self.old.count (length (to_lines frame world.now.records)))) }
         ensures err { IfErr result (ReadFails S.Source source.old source.new reader.old) }
     {
         // To ask for the tree is to know that the world is linked: each player has the id of its slot.

@@ -32,7 +32,7 @@ impl Model for Recorded {
 
 impl Recorded {
     ghost use Rattle.std.specs.Prelude.{◌≡◌, ◌++◌, None, map, OnOk};
-    ghost use Rattle.out_text.specs.Collecting.{no_frames, closing, collect};
+    ghost use Rattle.out_text.specs.Collecting.{no_frames, closed_frames, collect};
 
     /// Before the first event. It takes no memory.
     fn new(alloc: Global) -> Recorded
@@ -48,7 +48,7 @@ impl Recorded {
     /// Closes the frame that is open, if one is.
     fn close(&mut self, alloc: Global) -> Result<(), AllocError>
         ensures { OnOk result
-            (self.new ≡ record { closed = self.old.closed ++ closing self.old.opened; opened = None }) }
+            (self.new ≡ record { closed = self.old.closed ++ closed_frames self.old.opened; opened = None }) }
     {
         if self.is_open {
             let arrivals = mem::replace(&mut self.opened, Vec::new(alloc));

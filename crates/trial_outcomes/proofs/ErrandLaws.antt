@@ -14,12 +14,12 @@ use Rattle.entity_recs.specs.declared.effect.NewState.{NewState}
 use Rattle.entity_recs.specs.Records.{IsRecord}
 use Rattle.entity_recs.specs.Bodies.{abs_of}
 use Rattle.entity_recs.specs.Commands.{Command}
-use Rattle.entity_recs.specs.Actions.{touching, IsCall, HasPlayer, HasValidity}
+use Rattle.entity_recs.specs.Actions.{records_touching, IsCall, HasPlayer, HasValidity}
 use Rattle.entity_recs.specs.Actions.{HasLocality, HasFootprint, StaysWithin, is_of_one_inside}
 use Rattle.entity_recs.proofs.Standing.{records_have_boxes}
 use Rattle.trial_outcomes.proofs.StayingLaws.{least_itself}
 use Rattle.trial_outcomes.specs.declared.places.TheConstants.{ITEM}
-use Rattle.trial_outcomes.specs.Errand.{takes, arrived, region_of, moved_where}
+use Rattle.trial_outcomes.specs.Errand.{takes, player_at_arrival, region_of, moved_where}
 use Rattle.trial_outcomes.specs.Errand.{is_free_item, new_states, effect_where, effect_of}
 use Rattle.trial_outcomes.proofs.ErrandRecords.{keepable, item_box, mover, moved_is_taken, arrived_is_taken, stated}
 
@@ -58,11 +58,11 @@ item_is_touched a b =
     or_right (touches item a) _ (or_right (touches item b) _ (or_left (touches item item) false refl))
 
 same_found : (me : Rec) (near : List Rec) (c : Command) → IsCall takes me near c
-    → list_any is_free_item (touching (region_of me c) near) ≡ list_any is_free_item near
+    → list_any is_free_item (records_touching (region_of me c) near) ≡ list_any is_free_item near
 same_found me near c call =
     any_kept (λ r. takes r ≡ true) is_free_item (λ r. touches_region (abs_of r) (region_of me c))
     (λ r taken free. ap (λ b. touches_region b (region_of me c)) (free_item_box r taken free)
-    ∙ item_is_touched (abs_of me) (abs_of (arrived me)))
+    ∙ item_is_touched (abs_of me) (abs_of (player_at_arrival me)))
     near (recursion_from_All (λ r. takes r ≡ true) near call.others)
 
 -- the item lies in each region, so that what touches the region has it
@@ -94,21 +94,21 @@ any_implied P test other implies (r ∷ rs) all h = elim (or_cases (test r) (lis
 ]
 
 -- the player at the place of arrival is a record within its bounds
-pub arrived_is_record : (me : Rec) (c : Command) → HasPlayer takes me c → IsRecord (arrived me)
+pub arrived_is_record : (me : Rec) (c : Command) → HasPlayer takes me c → IsRecord (player_at_arrival me)
 arrived_is_record me c player =
     let is = mover me c player in
-    (keepable (arrived me) Player is.kind (arrived_is_taken me is.taken)).bounds
+    (keepable (player_at_arrival me) Player is.kind (arrived_is_taken me is.taken)).bounds
 
 three_boxes : (me : Rec) (c : Command) → HasPlayer takes me c → IsRegion (region_of me c)
 three_boxes me c player =
     let here = (records_have_boxes me (keepable me me.kind refl player.taken).bounds).abs in
-    let there = (records_have_boxes (arrived me) (arrived_is_record me c player)).abs in
+    let there = (records_have_boxes (player_at_arrival me) (arrived_is_record me c player)).abs in
     let item = (records_have_boxes ITEM (keepable ITEM Gem refl refl).bounds).abs in
     record {
       least = omega arith;
       most = omega arith;
-      boxes = All-cons IsBox (abs_of me) (abs_of (arrived me) ∷ abs_of ITEM ∷ []) here
-          (All-cons IsBox (abs_of (arrived me)) (abs_of ITEM ∷ []) there
+      boxes = All-cons IsBox (abs_of me) (abs_of (player_at_arrival me) ∷ abs_of ITEM ∷ []) here
+          (All-cons IsBox (abs_of (player_at_arrival me)) (abs_of ITEM ∷ []) there
           (All-cons IsBox (abs_of ITEM) [] item (All-nil IsBox)));
     }
 
@@ -118,8 +118,8 @@ module _ (me : Rec) (near : List Rec) (c : Command) (call : IsCall takes me near
   item_inside r taken free =
       and_from (r.id == 64) _ (and_parts (r.id == 64) (r.state == 0) free).0
       (ap (λ b. is_inside b (region_of me c)) (free_item_box r taken free)
-      ∙ later_inside (abs_of me) (abs_of ITEM) (abs_of (arrived me) ∷ abs_of ITEM ∷ [])
-      (later_inside (abs_of (arrived me)) (abs_of ITEM) (abs_of ITEM ∷ []) (first_inside (abs_of ITEM) [])))
+      ∙ later_inside (abs_of me) (abs_of ITEM) (abs_of (player_at_arrival me) ∷ abs_of ITEM ∷ [])
+      (later_inside (abs_of (player_at_arrival me)) (abs_of ITEM) (abs_of ITEM ∷ []) (first_inside (abs_of ITEM) [])))
 
   -- the new state is that of a record inside the region
   abbrev IsInside : NewState → Type 0
@@ -140,9 +140,9 @@ module _ (me : Rec) (near : List Rec) (c : Command) (call : IsCall takes me near
 
   moved_inside : (away : Bool) → is_inside (abs_of (moved_where away me c.seq)) (region_of me c) ≡ true
   moved_inside true =
-      later_inside (abs_of me) (abs_of (arrived me)) (abs_of (arrived me) ∷ abs_of ITEM ∷ [])
-      (first_inside (abs_of (arrived me)) (abs_of ITEM ∷ []))
-  moved_inside false = first_inside (abs_of me) (abs_of (arrived me) ∷ abs_of ITEM ∷ [])
+      later_inside (abs_of me) (abs_of (player_at_arrival me)) (abs_of (player_at_arrival me) ∷ abs_of ITEM ∷ [])
+      (first_inside (abs_of (player_at_arrival me)) (abs_of ITEM ∷ []))
+  moved_inside false = first_inside (abs_of me) (abs_of (player_at_arrival me) ∷ abs_of ITEM ∷ [])
 
   keeps_id : (away : Bool) → (moved_where away me c.seq).id ≡ me.id
   keeps_id true = refl
@@ -165,7 +165,7 @@ module _ (me : Rec) (near : List Rec) (c : Command) (call : IsCall takes me near
       let away = c.buttons % 2 == 1 in
       let free = list_any is_free_item near in
       record {
-        before = first_inside (abs_of me) (abs_of (arrived me) ∷ abs_of ITEM ∷ []);
+        before = first_inside (abs_of me) (abs_of (player_at_arrival me) ∷ abs_of ITEM ∷ []);
         after = moved_inside away;
         id = keeps_id away;
         kind = keeps_kind away;

@@ -13,7 +13,7 @@ use Rattle.entity_recs.specs.Commands.{Command}
 use Rattle.entity_recs.specs.Actions.{HasPlayer, IsKeepable}
 use Rattle.trial_outcomes.specs.Staying.{is_player}
 use Rattle.trial_outcomes.specs.declared.places.TheConstants.{ARRIVAL, ITEM}
-use Rattle.trial_outcomes.specs.Errand.{is_placed, is_the_item, is_taken, takes, arrived, moved_where}
+use Rattle.trial_outcomes.specs.Errand.{is_placed, is_the_item, is_taken, takes, player_at_arrival, moved_where}
 use Rattle.trial_outcomes.proofs.StayingLaws as staying
 
 -- ---- the item
@@ -102,7 +102,7 @@ numbered r seq small h =
     (lt-ltb seq 4294967296 small)
 
 -- and at the place of arrival
-arrived_is_player : (r : Rec) → is_player r ≡ true → is_player (arrived r) ≡ true
+arrived_is_player : (r : Rec) → is_player r ≡ true → is_player (player_at_arrival r) ≡ true
 arrived_is_player r h =
     let score = and_parts _ (nat_lt r.score 4294967296) h in
     let carry = and_parts _ (nat_le r.carry 8) score.0 in
@@ -121,10 +121,10 @@ arrived_is_player r h =
     let carrying = and_from _ (nat_le r.carry 8) armed carry.1 in
     and_from _ (nat_lt r.score 4294967296) carrying score.1
 
-pub arrived_is_taken : (r : Rec) → is_taken Player r ≡ true → is_taken Player (arrived r) ≡ true
+pub arrived_is_taken : (r : Rec) → is_taken Player r ≡ true → is_taken Player (player_at_arrival r) ≡ true
 arrived_is_taken r h =
     let seq = and_parts (is_player r) (nat_lt r.seq 4294967296) h in
-    and_from (is_player (arrived r)) (nat_lt r.seq 4294967296) (arrived_is_player r seq.0) seq.1
+    and_from (is_player (player_at_arrival r)) (nat_lt r.seq 4294967296) (arrived_is_player r seq.0) seq.1
 
 -- what is taken and has a slot for its id is a player
 pub slot_is_player : (r : Rec) (kind : Kind) → r.kind ≡ kind → is_taken kind r ≡ true → r.id < 64 → kind ≡ Player
@@ -145,7 +145,7 @@ mover me c player =
 
 pub moved_is_taken : (away : Bool) (me : Rec) (seq : ℕ) → IsMover me → seq < 2 ^ 32
     → takes (moved_where away me seq) ≡ true
-moved_is_taken true me seq is small = rw is.kind (numbered (arrived me) seq small (arrived_is_taken me is.taken))
+moved_is_taken true me seq is small = rw is.kind (numbered (player_at_arrival me) seq small (arrived_is_taken me is.taken))
 moved_is_taken false me seq is small = rw is.kind (numbered me seq small is.taken)
 
 pub stated : (kind : Kind) (r : Rec) (state : ℕ) → is_taken kind r ≡ true

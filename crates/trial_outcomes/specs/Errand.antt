@@ -37,20 +37,20 @@ abbrev pub takes : Rec → Bool
 takes r = is_taken r.kind r
 
 -- the player at rest at the place of arrival
-abbrev pub arrived : Rec → Rec
-arrived me = record me { origin = ARRIVAL; vel = zero_vector }
+abbrev pub player_at_arrival : Rec → Rec
+player_at_arrival me = record me { origin = ARRIVAL; vel = zero_vector }
 
 -- the player's box, its box at the place of arrival, and the item's box
 abbrev pub region_of : Rec → Command → List Bounds
-region_of me c = abs_of me ∷ abs_of (arrived me) ∷ abs_of ITEM ∷ []
+region_of me c = abs_of me ∷ abs_of (player_at_arrival me) ∷ abs_of ITEM ∷ []
 
 -- the player with this number, at the place of arrival or where it is
 abbrev pub moved_where : Bool → Rec → ℕ → Rec
-moved_where away me seq = if away then record (arrived me) { seq = seq } else record me { seq = seq }
+moved_where away me seq = if away then record (player_at_arrival me) { seq = seq } else record me { seq = seq }
 
 -- the player after a command: at the place of arrival where bit 0 of the buttons is set
-abbrev pub moved : Rec → Command → Rec
-moved me c = moved_where (c.buttons % 2 == 1) me c.seq
+abbrev pub player_after : Rec → Command → Rec
+player_after me c = moved_where (c.buttons % 2 == 1) me c.seq
 
 -- the record is that of the item, which is free
 abbrev pub is_free_item : Rec → Bool
@@ -67,9 +67,9 @@ ids_got free = if free then 64 ∷ [] else []
 -- the effect of a command, where the item is free or not
 abbrev pub effect_where : Bool → Rec → Command → Effect
 effect_where free me c = record {
-  me = moved me c;
+  me = player_after me c;
   states = new_states free c.frame;
-  reply = record { origin = (moved me c).origin; got = ids_got free };
+  reply = record { origin = (player_after me c).origin; got = ids_got free };
 }
 
 -- the player is moved, and the item among the other records is taken where it is free

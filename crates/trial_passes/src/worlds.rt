@@ -62,7 +62,7 @@ fn arena() -> Aabb {
         y: 131_072,
         z: 65_536,
     };
-    Aabb::between(lo, hi)
+    Aabb::from_corners(lo, hi)
 }
 
 /// The world of two players in the same leaves of a tree of this depth.

@@ -16,13 +16,13 @@ use Rattle.entity_recs.specs.declared.kind.Kind.TheVariants.{Player, Ammo, Gem, 
 use Rattle.entity_recs.specs.declared.bodies.TheConstants.{PLAYER_MINS}
 use Rattle.entity_recs.specs.declared.rec.Rec.{Rec}
 use Rattle.entity_recs.specs.Records.{IsShapeOf, IsRecord}
-use Rattle.entity_recs.specs.Bodies.{standing, body_of}
+use Rattle.entity_recs.specs.Bodies.{box_at_origin, body_of}
 use Rattle.arena_map.specs.declared.map_line.MapLine.{MapLine}
 use Rattle.arena_map.specs.declared.map_line.MapLine.TheVariants as lines
 use Rattle.arena_map.specs.Things.{dest_in}
 use Rattle.arena_map.specs.Maps.{MapView, IsMap, IsSpawn, IsThingInside, dest_of}
 use Rattle.item_rules.specs.Items.{has_room_for, may_take, with_item, after_item}
-use Rattle.trigger_rules.specs.Touching.{touched_by, solids_among, Walk, first_walk, scored, leapt, after_trigger, touched}
+use Rattle.trigger_rules.specs.Touching.{touched_by, solids_among, Walk, first_walk, player_after_goal, leapt, after_trigger, touched}
 use Rattle.trigger_rules.specs.Laws.{ids_of, is_same_record, IsPlayerOn, PlayersStayOn, StatesAreApart}
 use Rattle.trigger_rules.proofs.Steps.{Step, step, walk-keeps}
 use Rattle.trigger_rules.proofs.Taken.{were_there, ids_rise}
@@ -79,13 +79,13 @@ on-leap map me dest spawn is = record {
     carry = is.is_record.carry;
   };
   score = is.score;
-  inside = ap (λ (m : Vec3). contains map.bounds (standing dest m me.maxs)) shape.low_is ∙ ap (λ (m : Vec3). contains map.bounds (standing dest PLAYER_MINS m)) shape.high_is ∙ spawn.inside;
+  inside = ap (λ (m : Vec3). contains map.bounds (box_at_origin dest m me.maxs)) shape.low_is ∙ ap (λ (m : Vec3). contains map.bounds (box_at_origin dest PLAYER_MINS m)) shape.high_is ∙ spawn.inside;
 }
   where
     shape : IsShapeOf Player me.origin me.mins me.maxs
     shape = subst (λ (k : Kind). IsShapeOf k me.origin me.mins me.maxs) is.kind is.is_record.shape
 
-on-goal : (map : MapView) (me : Rec) → IsPlayerOn map me → IsPlayerOn map (scored me)
+on-goal : (map : MapView) (me : Rec) → IsPlayerOn map me → IsPlayerOn map (player_after_goal me)
 on-goal map me is = record {
   kind = is.kind;
   is_record = record {

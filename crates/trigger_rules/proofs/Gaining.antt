@@ -9,7 +9,7 @@ use Rattle.entity_recs.specs.declared.rec.Rec.{Rec}
 use Rattle.entity_recs.specs.Kinds.{number_of}
 use Rattle.arena_map.specs.Maps.{MapView}
 use Rattle.item_rules.specs.Items.{may_take, with_item, after_item}
-use Rattle.trigger_rules.specs.Touching.{touched_by, solids_among, Walk, walk_of, first_walk, scored, after_kind, after_trigger, touched}
+use Rattle.trigger_rules.specs.Touching.{touched_by, solids_among, Walk, walk_of, first_walk, player_after_goal, after_kind, after_trigger, touched}
 use Rattle.trigger_rules.specs.Laws.{HasFewThings, count_got, AmmunitionIsCounted, IsScoreOf, ScoresAreCounted, NoGemIsLost, HaveNoGoal, AreCarried, GoalsTakeWhatIsCarried}
 use Rattle.trigger_rules.proofs.Steps.{IsTake, Step, step, item-change, true-false}
 use Rattle.trigger_rules.proofs.Taken.{few-through, score-through, Rises, IsBelow, below-step, touched-rise, none-below}
@@ -114,7 +114,7 @@ scores-same gems me next last carry score is = record {
 }
 
 -- at a goal the player leaves what it carries
-scores-goal : (gems : ℕ) (me last : Rec) → Scores gems (scored me) last → Scores gems me last
+scores-goal : (gems : ℕ) (me last : Rec) → Scores gems (player_after_goal me) last → Scores gems me last
 scores-goal gems me last is = record {
   carried = omega (arith, is.carried);
   score = omega (arith, is.carried, is.score);
@@ -199,7 +199,7 @@ follow map solids frame n w (r ∷ before) rest up is =
     let next = after_trigger map solids frame w r in
     follow map solids frame (r.id + 1) next before rest up.1 (below-step map solids frame n w next r (step map solids frame w r) up.0 is)
 
-at-goal : (map : MapView) (solids : List Bounds) (frame : ℕ) (w : Walk) (goal : Rec) → w.ended ≡ false → goal.kind ≡ Goal → after_trigger map solids frame w goal ≡ walk_of (scored w.me) w.states w.got w.ended
+at-goal : (map : MapView) (solids : List Bounds) (frame : ℕ) (w : Walk) (goal : Rec) → w.ended ≡ false → goal.kind ≡ Goal → after_trigger map solids frame w goal ≡ walk_of (player_after_goal w.me) w.states w.got w.ended
 at-goal map solids frame w goal on kind =
     ap (λ (b : Bool). if b then w else after_kind goal.kind map solids frame w goal) on ∙ ap (λ (k : Kind). after_kind k map solids frame w goal) kind
 

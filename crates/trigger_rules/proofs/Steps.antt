@@ -13,7 +13,7 @@ use Rattle.entity_recs.specs.Bodies.{player_body}
 use Rattle.entity_recs.specs.Kinds.{is_item}
 use Rattle.arena_map.specs.Maps.{MapView, dest_of, delay_of}
 use Rattle.item_rules.specs.Items.{has_room_for, may_take, with_item, after_item}
-use Rattle.trigger_rules.specs.Touching.{Walk, walk_of, new_state, after_taking, after_touched_item, scored, leapt, after_teleporter, after_kind, after_trigger}
+use Rattle.trigger_rules.specs.Touching.{Walk, walk_of, new_state, after_taking, after_touched_item, player_after_goal, leapt, after_teleporter, after_kind, after_trigger}
 use Rattle.trigger_rules.specs.Laws.{HasFewThings, IsInPlace, IsSamePlayer}
 
 -- the item is taken
@@ -28,7 +28,7 @@ pub record IsTake (map : MapView) (frame : ℕ) (w : Walk) (item : Rec) (next : 
 -- a goal adds what the player carries to its score
 pub record IsGoal (w : Walk) (r : Rec) (next : Walk) : Type 0 where
   pub kind : r.kind ≡ Goal
-  pub is : next ≡ walk_of (scored w.me) w.states w.got w.ended
+  pub is : next ≡ walk_of (player_after_goal w.me) w.states w.got w.ended
 
 -- the player leaps
 pub record IsLeap (map : MapView) (solids : List Bounds) (w : Walk) (r : Rec) (next : Walk) : Type 0 where

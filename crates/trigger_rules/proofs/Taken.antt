@@ -14,11 +14,11 @@ use Rattle.entity_recs.specs.declared.kind.Kind.{Kind}
 use Rattle.entity_recs.specs.declared.kind.Kind.TheVariants.{Player, Ammo, Gem, Teleporter, Goal, Lift}
 use Rattle.entity_recs.specs.declared.rec.Rec.{Rec}
 use Rattle.entity_recs.specs.Records.{HasCorners}
-use Rattle.entity_recs.specs.Bodies.{abs_of, player_body, standing, is_touched}
+use Rattle.entity_recs.specs.Bodies.{abs_of, player_body, box_at_origin, is_touched}
 use Rattle.entity_recs.proofs.Ids.{rising_with}
 use Rattle.arena_map.specs.Maps.{MapView, dest_of}
 use Rattle.item_rules.specs.Items.{after_item}
-use Rattle.trigger_rules.specs.Touching.{touched_by, solids_among, Walk, walk_of, first_walk, new_state, scored, leapt, after_teleporter, after_kind, after_trigger, touched}
+use Rattle.trigger_rules.specs.Touching.{touched_by, solids_among, Walk, walk_of, first_walk, new_state, player_after_goal, leapt, after_teleporter, after_kind, after_trigger, touched}
 use Rattle.trigger_rules.specs.Laws.{HasFewThings, ThingsStayFew, IsTaken, AreTaken, ItemsWereThere, GotIdsRise, ScoresNeverFall, HasLeapt, LeapsAreFree, IsInPlace, OnlyLeapsMove, IsSamePlayer, PlayersStayThemselves, OnlyTouchedMatters}
 use Rattle.trigger_rules.proofs.Steps.{Step, step, item-change, true-false, was-there, few-with, walk-keeps, walk-keeps-in}
 
@@ -73,7 +73,7 @@ self-step : (map : MapView) (solids : List Bounds) (frame : ℕ) (me : Rec) (w n
 self-step map solids frame me w next r (inl same) is = subst (λ (v : Walk). IsSamePlayer me v.me) (sym same) is
 self-step map solids frame me w next r (inr (inl t)) is = subst (λ (v : Walk). IsSamePlayer me v.me) (sym t.is) (same-through me w.me (after_item w.me r) is (item-change w.me r).same)
 self-step map solids frame me w next r (inr (inr (inl goal))) is =
-    subst (λ (v : Walk). IsSamePlayer me v.me) (sym goal.is) (same-through me w.me (scored w.me) is (record { id = refl; kind = refl; mins = refl; maxs = refl; seq = refl; state = refl }))
+    subst (λ (v : Walk). IsSamePlayer me v.me) (sym goal.is) (same-through me w.me (player_after_goal w.me) is (record { id = refl; kind = refl; mins = refl; maxs = refl; seq = refl; state = refl }))
 self-step map solids frame me w next r (inr (inr (inr l))) is =
     subst (λ (v : Walk). IsSamePlayer me v.me) (sym l.is) (same-through me w.me (leapt w.me l.dest) is (record { id = refl; kind = refl; mins = refl; maxs = refl; seq = refl; state = refl }))
 
@@ -97,8 +97,8 @@ record HasPlace (map : MapView) (near : List Rec) (me : Rec) (w : Walk) : Type 0
 -- where a player in place with the same shape is in another record's place, its body is the same
 leapt-as : (map : MapView) (near : List Rec) (a b : Rec) → IsInPlace a b → IsSamePlayer a b → HasLeapt map near a → HasLeapt map near b
 leapt-as map near a b place same l = record {
-  free = ap (λ o. is_blocked (standing o b.mins b.maxs) (solids_among map near)) place.origin ∙ ap (λ m. is_blocked (standing a.origin m b.maxs) (solids_among map near)) same.mins
-      ∙ ap (λ m. is_blocked (standing a.origin a.mins m) (solids_among map near)) same.maxs ∙ l.free;
+  free = ap (λ o. is_blocked (box_at_origin o b.mins b.maxs) (solids_among map near)) place.origin ∙ ap (λ m. is_blocked (box_at_origin a.origin m b.maxs) (solids_among map near)) same.mins
+      ∙ ap (λ m. is_blocked (box_at_origin a.origin a.mins m) (solids_among map near)) same.maxs ∙ l.free;
   at_rest = place.vel ∙ l.at_rest;
 }
 
@@ -114,16 +114,16 @@ place-step map near frame me w next r (inr (inl t)) is =
       leaps = λ c off. leapt-as map near w.me (after_item w.me r) change.place change.same (is.leaps (corners-as w.me (after_item w.me r) change.same c) off);
     })
 place-step map near frame me w next r (inr (inr (inl goal))) is =
-    let place : IsInPlace w.me (scored w.me) = record { origin = refl; vel = refl; flags = refl } in
-    let same : IsSamePlayer w.me (scored w.me) = record { id = refl; kind = refl; mins = refl; maxs = refl; seq = refl; state = refl } in
+    let place : IsInPlace w.me (player_after_goal w.me) = record { origin = refl; vel = refl; flags = refl } in
+    let same : IsSamePlayer w.me (player_after_goal w.me) = record { id = refl; kind = refl; mins = refl; maxs = refl; seq = refl; state = refl } in
     subst (HasPlace map near me) (sym goal.is) (record {
-      stays = λ on. in_place-through me w.me (scored w.me) (is.stays on) place;
-      leaps = λ c off. leapt-as map near w.me (scored w.me) place same (is.leaps c off);
+      stays = λ on. in_place-through me w.me (player_after_goal w.me) (is.stays on) place;
+      leaps = λ c off. leapt-as map near w.me (player_after_goal w.me) place same (is.leaps c off);
     })
 place-step map near frame me w next r (inr (inr (inr l))) is = subst (HasPlace map near me) (sym l.is) (record {
   stays = λ on. absurd (true-false on);
   leaps = λ c off. record {
-    free = ap (λ m. is_blocked (standing l.dest m w.me.maxs) (solids_among map near)) c.low_is ∙ ap (λ m. is_blocked (standing l.dest PLAYER_MINS m) (solids_among map near)) c.high_is ∙ l.free;
+    free = ap (λ m. is_blocked (box_at_origin l.dest m w.me.maxs) (solids_among map near)) c.low_is ∙ ap (λ m. is_blocked (box_at_origin l.dest PLAYER_MINS m) (solids_among map near)) c.high_is ∙ l.free;
     at_rest = refl;
   };
 })

@@ -60,8 +60,8 @@ after_touched_item (Some delay) frame w item =
     if nat_lt (length w.got) 8 then after_taking (taken_state w.me item delay frame) w item else w
 
 -- the player at a goal: what it carries is added to its score, which ends at 4,294,967,295
-abbrev pub scored : Rec → Rec
-scored me = record me { carry = 0; score = min 4294967295 (me.score + me.carry) }
+abbrev pub player_after_goal : Rec → Rec
+player_after_goal me = record me { carry = 0; score = min 4294967295 (me.score + me.carry) }
 
 -- the player at the destination of a teleporter: at rest, with bit 1 of its flags set
 abbrev pub leapt : Rec → Vec3 → Rec
@@ -80,7 +80,7 @@ after_kind Player map solids frame w r = w
 after_kind Ammo map solids frame w r = after_touched_item (delay_of map r.id) frame w r
 after_kind Gem map solids frame w r = after_touched_item (delay_of map r.id) frame w r
 after_kind Teleporter map solids frame w r = after_teleporter (dest_of map r.id) solids w
-after_kind Goal map solids frame w r = walk_of (scored w.me) w.states w.got w.ended
+after_kind Goal map solids frame w r = walk_of (player_after_goal w.me) w.states w.got w.ended
 after_kind Lift map solids frame w r = w
 
 -- after a trigger is touched, unless the walk has ended

@@ -67,7 +67,7 @@ fn touch_item(
 /// What a goal that the player touches does: what the player carries is added to its score.
 fn touch_goal(me: &mut Rec)
     requires { IsRecord me.old }
-    ensures player { me.new ≡ touching.scored me.old }
+    ensures player { me.new ≡ touching.player_after_goal me.old }
     ensures record { IsRecord me.new }
 {
     me.score = me.score.saturating_add(u32::from(me.carry));

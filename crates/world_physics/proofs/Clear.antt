@@ -4,7 +4,7 @@ use Rattle.std.proofs.lemmas.Int.{ints}
 use Rattle.std.proofs.lemmas.Option.{same_Some}
 use Rattle.std.proofs.lemmas.Bool.{or_parts}
 use Rattle.arena_geo.specs.Bounds.{Bounds}
-use Rattle.arena_geo.specs.Boxes.{overlaps_on, overlaps, moved, is_blocked}
+use Rattle.arena_geo.specs.Boxes.{overlaps_on, overlaps, box_moved_by, is_blocked}
 use Rattle.arena_geo.proofs.Overlaps.{overlaps-flips}
 use Rattle.entity_recs.specs.declared.kind.Kind.{Kind}
 use Rattle.entity_recs.specs.declared.kind.Kind.TheVariants as kinds
@@ -13,14 +13,14 @@ use Rattle.entity_recs.specs.Kinds.{is_solid, is_player}
 use Rattle.entity_recs.specs.Bodies.{body_of}
 use Rattle.arena_map.specs.declared.lift.Lift.{Lift}
 use Rattle.arena_map.specs.MapLines.{is_lift}
-use Rattle.arena_map.specs.Places.{upwards}
+use Rattle.arena_map.specs.Positions.{upwards}
 use Rattle.arena_map.specs.Maps.{MapView, IsMap, entities_of, lift_of, solids_of}
 use Rattle.arena_map.specs.Validity.{IsValidWorld, AreClear}
 use Rattle.arena_map.proofs.ThingData.{live_records_have_data}
 use Rattle.world_tree.specs.Live.{record_at}
 use Rattle.world_physics.specs.declared.lift_step.LiftStep.{LiftStep}
-use Rattle.world_physics.specs.Returns.{each_changed, returned, after_returns}
-use Rattle.world_physics.specs.LiftSteps.{stands_on, is_carried, stays, is_in_the_way, is_stopped, raised, moved_along, after_step}
+use Rattle.world_physics.specs.Returns.{each_changed, record_after_returns, after_returns}
+use Rattle.world_physics.specs.LiftSteps.{stands_on, is_carried, stays, is_in_the_way, is_stopped, record_raised_by, moved_along, after_step}
 use Rattle.world_physics.specs.Ticks.{after_tick}
 use Rattle.world_physics.specs.Laws.{PlayersKeepRoom}
 use Rattle.world_physics.proofs.Changes.{was_before}
@@ -40,7 +40,7 @@ together_on lo hi l h by =
     ap (λ b. b && int_lt (l +ℤ by) (hi +ℤ by)) one ∙ ap (λ b. int_lt lo h && b) other
 
 -- boxes that move together overlap as before
-together : (a b : Bounds) (up : ℤ) → overlaps (moved a (upwards up)) (moved b (upwards up)) ≡ overlaps a b
+together : (a b : Bounds) (up : ℤ) → overlaps (box_moved_by a (upwards up)) (box_moved_by b (upwards up)) ≡ overlaps a b
 together a b up =
     let x = together_on a.lo.x a.hi.x b.lo.x b.hi.x (pos 0) in
     let y = together_on a.lo.y a.hi.y b.lo.y b.hi.y (pos 0) in
@@ -74,27 +74,27 @@ module _ (map : MapView) (records : List (Option Rec)) (id : ℕ) (step : LiftSt
   -- how a record moves in the step
   data Move (k : ℕ) (r new : Rec) : Type 0 where
     lifted : k ≡ id → new ≡ step.after → Move k r new
-    carried : is_carried step r ≡ true → new ≡ raised r step.up → Move k r new
+    carried : is_carried step r ≡ true → new ≡ record_raised_by r step.up → Move k r new
     left : (r.id == step.before.id) ≡ false → is_carried step r ≡ false → new ≡ r → Move k r new
 
   move_of : (k : ℕ) (r : Rec) → record_at records k ≡ Some r → Move k r (moved_along step r)
   move_of k r at = by (r.id == step.before.id) (is_carried step r) refl refl
     where
-      by : (b c : Bool) → (r.id == step.before.id) ≡ b → is_carried step r ≡ c → Move k r (cond b step.after (cond c (raised r step.up) r))
+      by : (b c : Bool) → (r.id == step.before.id) ≡ b → is_carried step r ≡ c → Move k r (cond b step.after (cond c (record_raised_by r step.up) r))
       by true c e f = lifted (at_lift map records id step is_map valid is free k r at e) refl
       by false true e f = carried f refl
       by false false e f = left e f refl
 
   -- who is carried is apart from the lift's new box
-  apart_from_lift : (k : ℕ) (r : Rec) → record_at records k ≡ Some r → is_carried step r ≡ true → AreApart (body_of (raised r step.up)) (body_of step.after)
+  apart_from_lift : (k : ℕ) (r : Rec) → record_at records k ≡ Some r → is_carried step r ≡ true → AreApart (body_of (record_raised_by r step.up)) (body_of step.after)
   apart_from_lift k r at c =
       ap (λ (b : Bounds). overlaps b (body_of step.after)) (raised-body r step.up) ∙ (or_parts _ _ (or_parts _ _ (has_way map step records k r free at c)).0).1
 
   -- and from the solids that stay
   apart_from_left : (k j : ℕ) (r s : Rec) → record_at records k ≡ Some r → is_carried step r ≡ true → record_at records j ≡ Some s → is_solid s.kind ≡ true
-      → (s.id == step.before.id) ≡ false → is_carried step s ≡ false → AreApart (body_of (raised r step.up)) (body_of s)
+      → (s.id == step.before.id) ≡ false → is_carried step s ≡ false → AreApart (body_of (record_raised_by r step.up)) (body_of s)
   apart_from_left k j r s at_k c at_j solid other stays_there =
-      let body = moved (body_of r) (upwards step.up) in
+      let body = box_moved_by (body_of r) (upwards step.up) in
       let none = (or_parts _ _ (has_way map step records k r free at_k c)).1 in
       let it_stays : stays step s ≡ true = rw (solid, other, stays_there) refl in
       ap (λ (b : Bounds). overlaps b (body_of s)) (raised-body r step.up)
@@ -122,7 +122,7 @@ module _ (map : MapView) (records : List (Option Rec)) (id : ℕ) (step : LiftSt
   pair i j r s new other at_i at_j solid_r solid_s differ (lifted here a) (carried c b) =
       ap (λ (x : Rec). overlaps (body_of x) (body_of other)) a
       ∙ ap (λ (y : Rec). overlaps (body_of step.after) (body_of y)) b
-      ∙ overlaps-flips (body_of step.after) (body_of (raised s step.up))
+      ∙ overlaps-flips (body_of step.after) (body_of (record_raised_by s step.up))
       ∙ apart_from_lift j s at_j c
   pair i j r s new other at_i at_j solid_r solid_s differ (lifted here a) (left e f b) =
       ap (λ (x : Rec). overlaps (body_of x) (body_of other)) a
@@ -130,17 +130,17 @@ module _ (map : MapView) (records : List (Option Rec)) (id : ℕ) (step : LiftSt
       ∙ overlaps-flips (body_of step.after) (body_of s)
       ∙ lift_from_left j s at_j solid_s (λ there. differ (here ∙ sym there)) f
   pair i j r s new other at_i at_j solid_r solid_s differ (carried c a) (lifted there b) =
-      ap (λ (x : Rec). overlaps (body_of x) (body_of other)) a ∙ ap (λ (y : Rec). overlaps (body_of (raised r step.up)) (body_of y)) b ∙ apart_from_lift i r at_i c
+      ap (λ (x : Rec). overlaps (body_of x) (body_of other)) a ∙ ap (λ (y : Rec). overlaps (body_of (record_raised_by r step.up)) (body_of y)) b ∙ apart_from_lift i r at_i c
   pair i j r s new other at_i at_j solid_r solid_s differ (carried c a) (carried d b) =
       ap (λ (x : Rec). overlaps (body_of x) (body_of other)) a
-      ∙ ap (λ (y : Rec). overlaps (body_of (raised r step.up)) (body_of y)) b
-      ∙ ap (λ (x : Bounds). overlaps x (body_of (raised s step.up))) (raised-body r step.up)
-      ∙ ap (overlaps (moved (body_of r) (upwards step.up))) (raised-body s step.up)
+      ∙ ap (λ (y : Rec). overlaps (body_of (record_raised_by r step.up)) (body_of y)) b
+      ∙ ap (λ (x : Bounds). overlaps x (body_of (record_raised_by s step.up))) (raised-body r step.up)
+      ∙ ap (overlaps (box_moved_by (body_of r) (upwards step.up))) (raised-body s step.up)
       ∙ together (body_of r) (body_of s) step.up
       ∙ clear.of_each_other i j r s at_i at_j solid_r solid_s differ
   pair i j r s new other at_i at_j solid_r solid_s differ (carried c a) (left e f b) =
       ap (λ (x : Rec). overlaps (body_of x) (body_of other)) a
-      ∙ ap (λ (y : Rec). overlaps (body_of (raised r step.up)) (body_of y)) b
+      ∙ ap (λ (y : Rec). overlaps (body_of (record_raised_by r step.up)) (body_of y)) b
       ∙ apart_from_left i j r s at_i c at_j solid_s e f
   pair i j r s new other at_i at_j solid_r solid_s differ (left e f a) (lifted there b) =
       ap (λ (x : Rec). overlaps (body_of x) (body_of other)) a
@@ -149,7 +149,7 @@ module _ (map : MapView) (records : List (Option Rec)) (id : ℕ) (step : LiftSt
   pair i j r s new other at_i at_j solid_r solid_s differ (left e f a) (carried d b) =
       ap (λ (x : Rec). overlaps (body_of x) (body_of other)) a
       ∙ ap (λ (y : Rec). overlaps (body_of r) (body_of y)) b
-      ∙ overlaps-flips (body_of r) (body_of (raised s step.up))
+      ∙ overlaps-flips (body_of r) (body_of (record_raised_by s step.up))
       ∙ apart_from_left j i s r at_j d at_i solid_r e f
   pair i j r s new other at_i at_j solid_r solid_s differ (left e f a) (left g h b) =
       ap (λ (x : Rec). overlaps (body_of x) (body_of other)) a
@@ -172,7 +172,7 @@ module _ (map : MapView) (records : List (Option Rec)) (id : ℕ) (step : LiftSt
       (λ here player. absurd (not_player step.after.kind is.after.kind player))
       (λ c player.
       ap (λ (b : Bounds). is_blocked b (solids_of map)) (raised-body r step.up)
-      ∙ clear_way map step records (moved (body_of r) (upwards step.up)) (has_way map step records k r free at c))
+      ∙ clear_way map step records (box_moved_by (body_of r) (upwards step.up)) (has_way map step records k r free at c))
 
   pub clear_done : AreClear map (each_changed (moved_along step) records)
   clear_done = record {
@@ -203,16 +203,16 @@ clear_step map records id step is_map valid is clear = by (is_stopped map step r
 clear_returned : (map : MapView) (frame : ℕ) (records : List (Option Rec)) → AreClear map records → AreClear map (after_returns frame records)
 clear_returned map frame records clear = record {
   of_the_map = λ k new at player.
-      let w = was_before (returned frame) records k new at in
+      let w = was_before (record_after_returns frame) records k new at in
       ap (λ (s : Rec). is_blocked (body_of s) (solids_of map)) w.is
       ∙ ap (λ (b : Bounds). is_blocked b (solids_of map)) (same_body w.was)
       ∙ clear.of_the_map k w.was w.at (sym (same_kind w.was) ∙ sym (ap (λ (s : Rec). s.kind) w.is) ∙ player);
   of_each_other = λ i j new other at_i at_j solid_i solid_j differ.
-      let a = was_before (returned frame) records i new at_i in
-      let b = was_before (returned frame) records j other at_j in
+      let a = was_before (record_after_returns frame) records i new at_i in
+      let b = was_before (record_after_returns frame) records j other at_j in
       ap (λ (x : Rec). overlaps (body_of x) (body_of other)) a.is
-      ∙ ap (λ (y : Rec). overlaps (body_of (returned frame a.was)) (body_of y)) b.is
-      ∙ ap (λ (x : Bounds). overlaps x (body_of (returned frame b.was))) (same_body a.was)
+      ∙ ap (λ (y : Rec). overlaps (body_of (record_after_returns frame a.was)) (body_of y)) b.is
+      ∙ ap (λ (x : Bounds). overlaps x (body_of (record_after_returns frame b.was))) (same_body a.was)
       ∙ ap (overlaps (body_of a.was)) (same_body b.was)
       ∙ clear.of_each_other i j a.was b.was a.at b.at
       (ap is_solid (sym (same_kind a.was)) ∙ sym (ap (λ (s : Rec). is_solid s.kind) a.is) ∙ solid_i)
@@ -220,10 +220,10 @@ clear_returned map frame records clear = record {
       differ;
 }
   where
-    same_body : (r : Rec) → body_of (returned frame r) ≡ body_of r
+    same_body : (r : Rec) → body_of (record_after_returns frame r) ≡ body_of r
     same_body r = either_returned (λ s. body_of s ≡ body_of r) frame r refl (λ due. refl)
 
-    same_kind : (r : Rec) → (returned frame r).kind ≡ r.kind
+    same_kind : (r : Rec) → (record_after_returns frame r).kind ≡ r.kind
     same_kind r = either_returned (λ (s : Rec). s.kind ≡ r.kind) frame r refl (λ due. refl)
 
 pub players_keep_room : PlayersKeepRoom

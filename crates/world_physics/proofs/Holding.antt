@@ -6,19 +6,19 @@ use Rattle.std.proofs.lemmas.Bool.{cases_Bool, or_cases, and_from, or_left, or_r
 use Rattle.std.proofs.lemmas.Bool.Decides.{nat_tests}
 use Rattle.std.proofs.lemmas.Option.{same_Some}
 use Rattle.arena_geo.specs.Bounds.{Bounds}
-use Rattle.arena_geo.specs.Boxes.{overlaps, moved, is_blocked}
+use Rattle.arena_geo.specs.Boxes.{overlaps, box_moved_by, is_blocked}
 use Rattle.entity_recs.specs.declared.kind.Kind.{Kind}
 use Rattle.entity_recs.specs.declared.kind.Kind.TheVariants as kinds
 use Rattle.entity_recs.specs.declared.rec.Rec.{Rec}
 use Rattle.entity_recs.specs.Kinds.{is_solid, is_item, is_player}
 use Rattle.entity_recs.specs.Bodies.{body_of}
 use Rattle.arena_map.specs.declared.lift.Lift.{Lift}
-use Rattle.arena_map.specs.Places.{upwards}
+use Rattle.arena_map.specs.Positions.{upwards}
 use Rattle.arena_map.specs.Maps.{MapView, IsMap, entities_of, lift_of, solids_of}
 use Rattle.arena_map.specs.Validity.{IsValidWorld}
 use Rattle.world_tree.specs.Live.{record_at, live_in}
-use Rattle.world_physics.specs.Returns.{each_changed, returned, after_returns}
-use Rattle.world_physics.specs.LiftSteps.{carried_along, is_carried, stays, is_in_the_way, is_obstructed, is_pressed, is_stopped, raised, distance_up, lift_after, moved_along, step_of, after_step}
+use Rattle.world_physics.specs.Returns.{each_changed, record_after_returns, after_returns}
+use Rattle.world_physics.specs.LiftSteps.{carried_along, is_carried, stays, is_in_the_way, is_obstructed, is_pressed, is_stopped, record_raised_by, distance_up, lift_after, moved_along, step_of, after_step}
 use Rattle.world_physics.specs.Ticks.{after_lift, after_thing, after_things, after_tick}
 use Rattle.world_physics.specs.Laws.{goes_with, GoesAlong, MeetsOther, HasNoRoom, IsHeld, StepsUnlessHeld, OnlyPlayersHoldLifts, IsMade, IsTurn, IsTurnOf, AreTurns, LiftsStepInTurn}
 use Rattle.world_physics.proofs.Changes.{at-changed, was_before}
@@ -60,12 +60,12 @@ solid_after : (frame : ℕ) (records : List (Option Rec)) (id : ℕ) (r : Rec) �
     → record_at (after_returns frame records) id ≡ Some r
 solid_after frame records id r solid at =
     let same = either_returned (λ s. s ≡ r) frame r refl (λ due. absurd (solid_no_item r.kind solid (due_is_item frame r due))) in
-    at-changed (returned frame) records id ∙ ap (option_map (returned frame)) at ∙ ap Some same
+    at-changed (record_after_returns frame) records id ∙ ap (option_map (record_after_returns frame)) at ∙ ap Some same
 
 solid_before : (frame : ℕ) (records : List (Option Rec)) (id : ℕ) (r : Rec) → is_solid r.kind ≡ true → record_at (after_returns frame records) id ≡ Some r
     → record_at records id ≡ Some r
 solid_before frame records id r solid at =
-    let w = was_before (returned frame) records id r at in
+    let w = was_before (record_after_returns frame) records id r at in
     let own : is_solid w.was.kind ≡ true = ap is_solid (sym (kind_returned frame w.was) ∙ sym (ap (λ (s : Rec). s.kind) w.is)) ∙ solid in
     let same = either_returned (λ s. s ≡ w.was) frame w.was refl (λ due. absurd (solid_no_item w.was.kind own (due_is_item frame w.was due))) in
     w.at ∙ ap Some (sym (w.is ∙ same))
@@ -95,13 +95,13 @@ held_alike map one other id lift old alike h = record {
   at = alike.there h.slot h.player (ap is_solid h.is_player) h.at;
   is_player = h.is_player;
   goes = h.goes;
-  no_room = room_alike map one other id lift old (body_of (raised h.player ((lift_after lift old).origin.z -ℤ old.origin.z))) alike h.no_room;
+  no_room = room_alike map one other id lift old (body_of (record_raised_by h.player ((lift_after lift old).origin.z -ℤ old.origin.z))) alike h.no_room;
 }
 
 -- ---- who is pressed holds the lift
 
 carried_body : (lift : Lift) (old player : Rec)
-    → body_of (raised player ((lift_after lift old).origin.z -ℤ old.origin.z)) ≡ moved (body_of player) (upwards (distance_up lift old))
+    → body_of (record_raised_by player ((lift_after lift old).origin.z -ℤ old.origin.z)) ≡ box_moved_by (body_of player) (upwards (distance_up lift old))
 carried_body lift old player = ap body_of (sym (by_as_much player old.origin.z (distance_up lift old))) ∙ raised-body player (distance_up lift old)
 
 module _ (map : MapView) (id : ℕ) (lift : Lift) (records : List (Option Rec)) (valid : IsValidWorld map records) (old : Rec) (at_old : record_at records id ≡ Some old)
@@ -151,7 +151,7 @@ module _ (map : MapView) (id : ℕ) (lift : Lift) (records : List (Option Rec)) 
   unfolding is_stopped step_of
   held_of stopped =
       let f = is_found (is_pressed map (step_of lift old) records) records stopped in
-      let parts = and_parts (is_carried (step_of lift old) f.r) (is_obstructed map (step_of lift old) records (moved (body_of f.r) (upwards (distance_up lift old)))) f.passes in
+      let parts = and_parts (is_carried (step_of lift old) f.r) (is_obstructed map (step_of lift old) records (box_moved_by (body_of f.r) (upwards (distance_up lift old)))) f.passes in
       let kind = carried_is_player (step_of lift old) f.r parts.0 in
       let P : Bounds → Type 0 = HasNoRoom map records id lift old in
       record {
@@ -160,7 +160,7 @@ module _ (map : MapView) (id : ℕ) (lift : Lift) (records : List (Option Rec)) 
         at = f.at;
         is_player = kind;
         goes = sym (carried-goes lift old f.r kind) ∙ parts.0;
-        no_room = subst P (sym (carried_body lift old f.r)) (no_room_of (moved (body_of f.r) (upwards (distance_up lift old))) parts.1);
+        no_room = subst P (sym (carried_body lift old f.r)) (no_room_of (box_moved_by (body_of f.r) (upwards (distance_up lift old))) parts.1);
       }
 
   -- ---- who holds the lift is pressed
@@ -192,7 +192,7 @@ module _ (map : MapView) (id : ℕ) (lift : Lift) (records : List (Option Rec)) 
       let P : Bounds → Type 0 = HasNoRoom map records id lift old in
       found (is_pressed map (step_of lift old) records) records h.slot h.player h.at
       (and_from (is_carried (step_of lift old) h.player) _ (carried-goes lift old h.player h.is_player ∙ h.goes)
-      (obstructed_of (moved (body_of h.player) (upwards (distance_up lift old))) (subst P (carried_body lift old h.player) h.no_room)))
+      (obstructed_of (box_moved_by (body_of h.player) (upwards (distance_up lift old))) (subst P (carried_body lift old h.player) h.no_room)))
 
   -- ---- the step
 
@@ -210,7 +210,7 @@ module _ (map : MapView) (id : ℕ) (lift : Lift) (records : List (Option Rec)) 
       ] in
       let same : moved_along (step_of lift old) r ≡ r =
       ap (λ b. cond b (lift_after lift old) (carried_along (step_of lift old) r)) (other_place other r at apart)
-      ∙ ap (λ b. cond b (raised r (distance_up lift old)) r) left in
+      ∙ ap (λ b. cond b (record_raised_by r (distance_up lift old)) r) left in
       at-changed (moved_along (step_of lift old)) records other ∙ ap (option_map (moved_along (step_of lift old))) at ∙ ap Some same
 
   is_made : IsMade id lift old records (each_changed (moved_along (step_of lift old)) records)

@@ -14,10 +14,10 @@ use Rattle.arena_map.specs.Maps.{MapView, IsMap, entities_of, lift_of}
 use Rattle.arena_map.specs.Validity.{IsValidWorld}
 use Rattle.world_tree.specs.Live.{record_at}
 use Rattle.world_physics.specs.declared.lift_step.LiftStep.{LiftStep}
-use Rattle.world_physics.specs.Returns.{each_changed, is_due, returned, after_returns}
-use Rattle.world_physics.specs.LiftSteps.{raised, step_of, is_stopped, moved_along, after_step}
+use Rattle.world_physics.specs.Returns.{each_changed, is_due, record_after_returns, after_returns}
+use Rattle.world_physics.specs.LiftSteps.{record_raised_by, step_of, is_stopped, moved_along, after_step}
 use Rattle.world_physics.specs.Ticks.{after_lift, after_thing, after_things, after_tick}
-use Rattle.world_physics.specs.Laws.{ValidWorldsStayValid, HaveSameIds, IdsStay, LiftsStayOnTheirWay, at_z, has_state, ChangesOnly, OnlyPlacesAndStatesChange, IsItemAfter, ItemsReturnAtTheirFrame}
+use Rattle.world_physics.specs.Laws.{ValidWorldsStayValid, HaveSameIds, IdsStay, LiftsStayOnTheirWay, at_z, has_state, ChangesOnly, OnlyOriginsAndStatesChange, IsItemAfter, ItemsReturnAtTheirFrame}
 use Rattle.world_physics.proofs.Changes.{at-changed, length-changed}
 use Rattle.world_physics.proofs.LiftRecords.{IsStepAt}
 use Rattle.world_physics.proofs.Valid.{returns_keep_valid, either_returned, either_moved, due_is_item, carried_is_player}
@@ -76,7 +76,7 @@ same_ids_things map (thing ∷ things) records =
 pub ids_stay : IdsStay
 unfolding after_tick
 ids_stay map frame records =
-    same_ids_twice records (after_returns frame records) (after_things map (after_returns frame records) (entities_of map)) (same_ids_changed (returned frame) records)
+    same_ids_twice records (after_returns frame records) (after_things map (after_returns frame records) (entities_of map)) (same_ids_changed (record_after_returns frame) records)
     (same_ids_things map (entities_of map) (after_returns frame records))
 
 -- ---- what changes
@@ -103,7 +103,7 @@ only_twice a b c one two =
       state = λ h. two.state (ap has_state kind ∙ h) ∙ one.state h;
     }
 
-only_returned : (frame : ℕ) (r : Rec) → ChangesOnly r (returned frame r)
+only_returned : (frame : ℕ) (r : Rec) → ChangesOnly r (record_after_returns frame r)
 only_returned frame r = either_returned (ChangesOnly r) frame r (only_none r) (λ due. record {
   rest = refl;
   z = λ h. refl;
@@ -116,14 +116,14 @@ lift_is_solid kind is = ap is_solid is
 lift_has_state : (kind : Kind) → kind ≡ kinds.Lift → has_state kind ≡ true
 lift_has_state kind is = ap has_state is
 
-only_lift : (before after : Rec) (up : ℤ) → before.kind ≡ kinds.Lift → after ≡ with_state (raised before up) after.state → ChangesOnly before after
+only_lift : (before after : Rec) (up : ℤ) → before.kind ≡ kinds.Lift → after ≡ with_state (record_raised_by before up) after.state → ChangesOnly before after
 only_lift before after up kind is = record {
   rest = is ∙ ap (λ z. with_state (at_z before z) after.state) (sym (ap (λ (r : Rec). r.origin.z) is));
   z = λ h. absurd (false-true (is_solid before.kind) (lift_is_solid before.kind kind) h);
   state = λ h. absurd (false-true (has_state before.kind) (lift_has_state before.kind kind) h);
 }
 
-only_carried : (r : Rec) (up : ℤ) → r.kind ≡ kinds.Player → ChangesOnly r (raised r up)
+only_carried : (r : Rec) (up : ℤ) → r.kind ≡ kinds.Player → ChangesOnly r (record_raised_by r up)
 only_carried r up kind = record {
   rest = refl;
   z = λ h. absurd (false-true (is_solid r.kind) (ap is_solid kind) h);
@@ -147,17 +147,17 @@ only_kept map is_map = record {
 
 -- what becomes of a record in a tick
 pub in_tick : (map : MapView) (R : Rec → Rec → Type 0) (frame : ℕ) (records : List (Option Rec)) → IsMap map → IsValidWorld map records → IsKeptByEach map R → (id : ℕ) (old new : Rec)
-    → record_at records id ≡ Some old → record_at (after_tick map frame records) id ≡ Some new → R (returned frame old) new
+    → record_at records id ≡ Some old → record_at (after_tick map frame records) id ≡ Some new → R (record_after_returns frame old) new
 unfolding after_tick
 in_tick map R frame records is_map valid kept id old new at_old at_new =
     let start = returns_keep_valid map frame records valid in
-    let b = each_through map R is_map kept (entities_of map) (after_returns frame records) start id (returned frame old)
-    (at-changed (returned frame) records id ∙ ap (option_map (returned frame)) at_old) in
-    subst (R (returned frame old)) (same_Some b.r new (sym b.at ∙ at_new)) b.is
+    let b = each_through map R is_map kept (entities_of map) (after_returns frame records) start id (record_after_returns frame old)
+    (at-changed (record_after_returns frame) records id ∙ ap (option_map (record_after_returns frame)) at_old) in
+    subst (R (record_after_returns frame old)) (same_Some b.r new (sym b.at ∙ at_new)) b.is
 
-pub only_places_and_states_change : OnlyPlacesAndStatesChange
-only_places_and_states_change map frame records id old new is_map valid at_old at_new =
-    only_twice old (returned frame old) new (only_returned frame old) (in_tick map ChangesOnly frame records is_map valid (only_kept map is_map) id old new at_old at_new)
+pub only_origins_and_states_change : OnlyOriginsAndStatesChange
+only_origins_and_states_change map frame records id old new is_map valid at_old at_new =
+    only_twice old (record_after_returns frame old) new (only_returned frame old) (in_tick map ChangesOnly frame records is_map valid (only_kept map is_map) id old new at_old at_new)
 
 -- ---- items
 
@@ -192,35 +192,35 @@ item_is_no_solid kinds.Player h = cc
 item_is_no_solid kinds.Lift h = cc
 
 -- an item after the returns
-item_returned : (frame : ℕ) (r : Rec) → is_item r.kind ≡ true → IsItemAfter frame r (returned frame r)
+item_returned : (frame : ℕ) (r : Rec) → is_item r.kind ≡ true → IsItemAfter frame r (record_after_returns frame r)
 item_returned frame r item = record { there = there; away = away }
   where
     due : (zero_state past : Bool) → (r.state == 0) ≡ zero_state → nat_le r.state frame ≡ past → is_due frame r ≡ (not zero_state && past)
     due a b e f = ap (λ t. t && not (r.state == 0) && nat_le r.state frame) item ∙ ap (λ t. not t && nat_le r.state frame) e ∙ ap (λ t. not a && t) f
 
-    there : r.state ≤ frame → returned frame r ≡ with_state r 0
+    there : r.state ≤ frame → record_after_returns frame r ≡ with_state r 0
     there h = by (r.state == 0) refl
       where
         past : nat_le r.state frame ≡ true
         past = grind (arith, nat_tests)
 
-        by : (a : Bool) → (r.state == 0) ≡ a → returned frame r ≡ with_state r 0
+        by : (a : Bool) → (r.state == 0) ≡ a → record_after_returns frame r ≡ with_state r 0
         by true e =
             let zero_there : r.state ≡ 0 = grind (arith, nat_tests) in
             ap (λ b. cond b (with_state r 0) r) (due true true e past) ∙ ap (with_state r) zero_there
         by false e = ap (λ b. cond b (with_state r 0) r) (due false true e past)
 
-    away : frame < r.state → returned frame r ≡ r
+    away : frame < r.state → record_after_returns frame r ≡ r
     away h =
         let some : (r.state == 0) ≡ false = grind (arith, nat_tests) in
         let later : nat_le r.state frame ≡ false = grind (arith, nat_tests) in
         ap (λ b. cond b (with_state r 0) r) (due false false some later)
 
-pub kind_returned : (frame : ℕ) (r : Rec) → (returned frame r).kind ≡ r.kind
+pub kind_returned : (frame : ℕ) (r : Rec) → (record_after_returns frame r).kind ≡ r.kind
 kind_returned frame r = either_returned (λ (s : Rec). s.kind ≡ r.kind) frame r refl (λ due. refl)
 
 pub items_return_at_their_frame : ItemsReturnAtTheirFrame
 items_return_at_their_frame map frame records id old new is_map valid at_old item at_new =
     let stays = in_tick map StaysUnlessSolid frame records is_map valid (stays_kept map is_map) id old new at_old at_new in
-    let same : new ≡ returned frame old = stays.same (ap is_solid (kind_returned frame old) ∙ item_is_no_solid old.kind item) in
+    let same : new ≡ record_after_returns frame old = stays.same (ap is_solid (kind_returned frame old) ∙ item_is_no_solid old.kind item) in
     subst (IsItemAfter frame old) (sym same) (item_returned frame old item)

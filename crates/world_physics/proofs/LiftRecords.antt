@@ -18,7 +18,7 @@ use Rattle.arena_map.proofs.ThingData.{data_follow_kinds}
 use Rattle.arena_map.proofs.Lifts.{lift-is_lift, lifts_stay_inside}
 use Rattle.world_tree.specs.Live.{record_at}
 use Rattle.world_physics.specs.declared.lift_step.LiftStep.{LiftStep}
-use Rattle.world_physics.specs.LiftSteps.{next_height, next_state, lift_after, raised, step_of, IsOnItsWay, IsStep}
+use Rattle.world_physics.specs.LiftSteps.{next_height, next_state, lift_after, record_raised_by, step_of, IsOnItsWay, IsStep}
 use Rattle.world_physics.proofs.Ways.{next_is}
 
 -- the record is that of a lift of the map
@@ -146,7 +146,7 @@ pub record IsStepAt (map : MapView) (records : List (Option Rec)) (id : ℕ) (st
   pub valid : IsValidRecord map id step.before
   pub valid_after : IsValidRecord map id step.after
   pub far : unsigned_abs step.up ≤ 2560
-  pub only : step.after ≡ with_state (raised step.before step.up) step.after.state
+  pub only : step.after ≡ with_state (record_raised_by step.before step.up) step.after.state
 
 pub step_at : (map : MapView) (records : List (Option Rec)) (id : ℕ) (lift : Lift) (r : Rec) → IsMap map → IsValidWorld map records → lift_of map id ≡ Some lift
     → record_at records id ≡ Some r → IsStepAt map records id (step_of lift r)

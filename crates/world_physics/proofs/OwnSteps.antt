@@ -5,7 +5,7 @@ use Rattle.std.specs.Option.{option_map}
 use Rattle.std.proofs.lemmas.Bool.{cases_eq, cases_lt}
 use Rattle.std.proofs.lemmas.Bool.Decides.{nat_tests}
 use Rattle.std.proofs.lemmas.Option.{none-some, same_Some, slice_get_within}
-use Rattle.arena_geo.specs.Boxes.{moved}
+use Rattle.arena_geo.specs.Boxes.{box_moved_by}
 use Rattle.entity_recs.specs.declared.kind.Kind.{Kind}
 use Rattle.entity_recs.specs.declared.kind.Kind.TheVariants as kinds
 use Rattle.entity_recs.specs.declared.rec.Rec.{Rec}
@@ -15,7 +15,7 @@ use Rattle.entity_recs.proofs.Ids.{no_record}
 use Rattle.arena_map.specs.declared.lift.Lift.{Lift}
 use Rattle.arena_map.specs.declared.map_line.MapLine.{MapLine}
 use Rattle.arena_map.specs.MapLines.{is_thing_line}
-use Rattle.arena_map.specs.Places.{upwards}
+use Rattle.arena_map.specs.Positions.{upwards}
 use Rattle.arena_map.specs.Things.{records_from, record_of}
 use Rattle.arena_map.specs.Maps.{MapView, IsMap, IsThingInside, lift_of}
 use Rattle.arena_map.specs.Validity.{IsValidWorld}
@@ -24,8 +24,8 @@ use Rattle.arena_map.proofs.Opening.{found-in}
 use Rattle.arena_map.proofs.ThingRecords.{own-id}
 use Rattle.world_tree.specs.Live.{record_at}
 use Rattle.world_physics.specs.declared.lift_step.LiftStep.{LiftStep}
-use Rattle.world_physics.specs.Returns.{each_changed, returned, after_returns}
-use Rattle.world_physics.specs.LiftSteps.{raised, is_carried, is_obstructed, is_pressed, is_stopped, lift_after, moved_along, carried_along, step_of, after_step}
+use Rattle.world_physics.specs.Returns.{each_changed, record_after_returns, after_returns}
+use Rattle.world_physics.specs.LiftSteps.{record_raised_by, is_carried, is_obstructed, is_pressed, is_stopped, lift_after, moved_along, carried_along, step_of, after_step}
 use Rattle.world_physics.specs.Ticks.{after_lift, after_thing, after_things, after_tick}
 use Rattle.world_physics.specs.Laws.{HaveSameIds, IsStepped, LiftsMakeTheirStep}
 use Rattle.world_physics.proofs.Changes.{at-changed}
@@ -50,7 +50,7 @@ still_alone old new same alone slot below = no_record (record_at new slot) (same
 free_alone : (map : MapView) (records : List (Option Rec)) (step : LiftStep) → IsValidWorld map records → AreAlone records → is_stopped map step records ≡ false
 unfolding is_stopped
 free_alone map records step valid alone =
-    none_found (is_pressed map step records) records (λ k r at. ap (λ b. b && is_obstructed map step records (moved (body_of r) (upwards step.up))) (left k r at))
+    none_found (is_pressed map step records) records (λ k r at. ap (λ b. b && is_obstructed map step records (box_moved_by (body_of r) (upwards step.up))) (left k r at))
   where
     left : (k : ℕ) (r : Rec) → record_at records k ≡ Some r → is_carried step r ≡ false
     left k r at = elim (cases_lt k 64) [
@@ -86,7 +86,7 @@ module _ (map : MapView) (is_map : IsMap map) (id : ℕ) (lift : Lift) (has : li
       left =
           let here = valid.each id r at in
           ap (λ b. cond b step.after (carried_along step r)) (other_id map records k step valid is id r at (λ same. apart (sym same)))
-          ∙ ap (λ b. cond b (raised r step.up) r) (not_carried_past step id r (record { is_record = here.is_record; own_id = here.own_id }) (is_at records r valid at).low)
+          ∙ ap (λ b. cond b (record_raised_by r step.up) r) (not_carried_past step id r (record { is_record = here.is_record; own_id = here.own_id }) (is_at records r valid at).low)
 
       by : (b : Bool) → record_at (cond b records (each_changed (moved_along step) records)) id ≡ Some r
       by true = at
@@ -180,7 +180,7 @@ module _ (map : MapView) (is_map : IsMap map) (id : ℕ) (lift : Lift) (has : li
       → record_at (after_returns frame records) id ≡ Some r
   lift_returned frame records r valid at =
       let same = either_returned (λ s. s ≡ r) frame r refl (λ due. absurd (not_item r.kind (is_at records r valid at).kind (due_is_item frame r due))) in
-      at-changed (returned frame) records id ∙ ap (option_map (returned frame)) at ∙ ap Some same
+      at-changed (record_after_returns frame) records id ∙ ap (option_map (record_after_returns frame)) at ∙ ap Some same
 
   in_tick : (frame : ℕ) (records : List (Option Rec)) (old : Rec) → IsValidWorld map records → record_at records id ≡ Some old
       → Becomes lift id old (after_returns frame records) (after_tick map frame records)
@@ -197,5 +197,5 @@ pub lifts_make_their_step : LiftsMakeTheirStep
 lifts_make_their_step map frame records id lift old new is_map valid has at_old at_new =
     let b = in_tick map is_map id lift has frame records old valid at_old in
     let stepped : IsStepped lift records old b.new =
-    record { either = b.is.either; alone = λ alone. b.is.alone (still_alone records (after_returns frame records) (same_ids_changed (returned frame) records) alone) } in
+    record { either = b.is.either; alone = λ alone. b.is.alone (still_alone records (after_returns frame records) (same_ids_changed (record_after_returns frame) records) alone) } in
     subst (IsStepped lift records old) (same_Some b.new new (sym b.at ∙ at_new)) stepped

@@ -3,10 +3,10 @@ use Rattle.std.specs.Prelude.{◌≡◌, ℕ, ◌≤◌, Bool, false, true, ◌&
 use Rattle.std.specs.Option.{option_map_or}
 use Rattle.std.proofs.Common.{refl, sym, ap, ◌∙◌, arith}
 use Rattle.arena_geo.specs.Bounds.{Bounds}
-use Rattle.arena_geo.specs.Boxes.{moved}
+use Rattle.arena_geo.specs.Boxes.{box_moved_by}
 use Rattle.entity_recs.specs.declared.rec.Rec.{Rec}
 use Rattle.entity_recs.specs.Bodies.{body_of}
-use Rattle.arena_map.specs.Places.{upwards}
+use Rattle.arena_map.specs.Positions.{upwards}
 use Rattle.arena_map.specs.Maps.{MapView}
 use Rattle.world_tree.specs.Live.{record_at}
 use Rattle.world_tree.specs.Worlds.{WorldView, IsLinked}
@@ -36,9 +36,9 @@ stopped map step records slot place is passes = sym (found_here (is_pressed map 
 
 -- the test of a carried player's body, moved with the lift, is that of its record
 pub pressed-is : (map : MapView) (step : LiftStep) (records : List (Option Rec)) (place : Option Rec) (r : Rec) (body : Bounds) (result : Bool) → place ≡ Some r → is_carried step r ≡ true
-    → body ≡ moved (body_of r) (upwards step.up) → result ≡ is_obstructed map step records body → result ≡ option_map_or (is_pressed map step records) place false
+    → body ≡ box_moved_by (body_of r) (upwards step.up) → result ≡ is_obstructed map step records body → result ≡ option_map_or (is_pressed map step records) place false
 pressed-is map step records place r body result is carried body_is result_is =
     result_is
     ∙ ap (is_obstructed map step records) body_is
-    ∙ sym (ap (λ b. b && is_obstructed map step records (moved (body_of r) (upwards step.up))) carried)
+    ∙ sym (ap (λ b. b && is_obstructed map step records (box_moved_by (body_of r) (upwards step.up))) carried)
     ∙ sym (ap (λ o. option_map_or (is_pressed map step records) o false) is)

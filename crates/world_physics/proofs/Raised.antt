@@ -6,7 +6,7 @@ use Rattle.std.specs.Cmp.Derive.{both_true}
 use Rattle.std.specs.List.{list_any}
 use Rattle.arena_geo.specs.declared.vec3.Vec3.{Vec3}
 use Rattle.arena_geo.specs.Bounds.{Bounds, bounds, IsOrdered}
-use Rattle.arena_geo.specs.Boxes.{overlaps_on, overlaps, contains_on, contains, moved, is_blocked}
+use Rattle.arena_geo.specs.Boxes.{overlaps_on, overlaps, contains_on, contains, box_moved_by, is_blocked}
 use Rattle.arena_geo.proofs.Containment.{ThreePass, three_pass, all_three}
 use Rattle.box_trace.specs.Walls.{low, high, with_x, with_y, with_z, walls_of}
 use Rattle.entity_recs.specs.declared.kind.Kind.{Kind}
@@ -16,10 +16,10 @@ use Rattle.entity_recs.specs.Records.{IsShapeOf}
 use Rattle.entity_recs.specs.Bodies.{body_of}
 use Rattle.entity_recs.proofs.Standing.{shape_is_roomy}
 use Rattle.entity_recs.proofs.Ids.{player_shape}
-use Rattle.arena_map.specs.Places.{upwards}
+use Rattle.arena_map.specs.Positions.{upwards}
 use Rattle.arena_map.specs.Maps.{MapView, IsMap, solids_of}
 use Rattle.arena_map.specs.Validity.{IsValidRecord}
-use Rattle.world_physics.specs.LiftSteps.{raised}
+use Rattle.world_physics.specs.LiftSteps.{record_raised_by}
 
 -- ---- boxes
 
@@ -30,7 +30,7 @@ level at by = omega (arith, ints)
 higher : (at up by : ℤ) → (at +ℤ up) +ℤ by ≡ (at +ℤ by) +ℤ up
 higher at up by = omega (arith, ints)
 
-pub raised-body : (r : Rec) (up : ℤ) → body_of (raised r up) ≡ moved (body_of r) (upwards up)
+pub raised-body : (r : Rec) (up : ℤ) → body_of (record_raised_by r up) ≡ box_moved_by (body_of r) (upwards up)
 raised-body r up = λ i. record {
   lo = record { x = level r.origin.x r.mins.x i; y = level r.origin.y r.mins.y i; z = higher r.origin.z up r.mins.z i };
   hi = record { x = level r.origin.x r.maxs.x i; y = level r.origin.y r.maxs.y i; z = higher r.origin.z up r.maxs.z i };
@@ -101,10 +101,10 @@ inside_parts a b h = three_pass (contains_on a.lo.x a.hi.x b.lo.x b.hi.x) (conta
 
 -- a body inside the arena is inside it after a step that no wall stops
 still_inside : (arena body : Bounds) (up : ℤ) (blocks : List Bounds) → contains arena body ≡ true → IsOrdered body → unsigned_abs up ≤ 2560
-    → is_blocked (moved body (upwards up)) (walls_of arena ++ blocks) ≡ false → contains arena (moved body (upwards up)) ≡ true
+    → is_blocked (box_moved_by body (upwards up)) (walls_of arena ++ blocks) ≡ false → contains arena (box_moved_by body (upwards up)) ≡ true
 still_inside arena body up blocks inside ordered far free =
     let t = inside_parts arena body inside in
-    let there = moved body (upwards up) in
+    let there = box_moved_by body (upwards up) in
     let over_x = across arena.lo.x arena.hi.x body.lo.x body.hi.x t.x ordered.x in
     let over_y = across arena.lo.y arena.hi.y body.lo.y body.hi.y t.y ordered.y in
     let not_under : int_le arena.lo.z (body.lo.z +ℤ up) ≡ true = elim (cases_Bool (int_le arena.lo.z (body.lo.z +ℤ up))) [
@@ -127,26 +127,26 @@ near_on lo hi at mins maxs near_lo near_hi m n inside = grind (arith, ints)
 
 -- the record of a player, raised so that no wall and no block stops it, is valid
 pub raised_is_valid : (map : MapView) (id : ℕ) (r : Rec) (up : ℤ) → IsMap map → IsValidRecord map id r → r.kind ≡ Player → unsigned_abs up ≤ 2560
-    → is_blocked (moved (body_of r) (upwards up)) (solids_of map) ≡ false → IsValidRecord map id (raised r up)
+    → is_blocked (box_moved_by (body_of r) (upwards up)) (solids_of map) ≡ false → IsValidRecord map id (record_raised_by r up)
 raised_is_valid map id r up is_map valid kind far free =
     let is = valid.is_record in
     let shape = player_shape r is kind in
     let ordered = (shape_is_roomy r.kind r.origin r.mins r.maxs is.origin is.shape).ordered in
-    let inside : contains map.bounds (body_of (raised r up)) ≡ true =
+    let inside : contains map.bounds (body_of (record_raised_by r up)) ≡ true =
     ap (contains map.bounds) (raised-body r up) ∙ still_inside map.bounds (body_of r) up map.blocks (valid.inside kind) ordered far free in
     let origin = is.origin in
     let mins_z : r.mins.z ≡ neg_ℤ (pos 6144) = ap (λ (v : Vec3). v.z) shape.low_is in
     let maxs_z : r.maxs.z ≡ pos 8192 = ap (λ (v : Vec3). v.z) shape.high_is in
-    let there : IsShapeOf Player (raised r up).origin r.mins r.maxs = record { low_is = shape.low_is; high_is = shape.high_is } in
+    let there : IsShapeOf Player (record_raised_by r up).origin r.mins r.maxs = record { low_is = shape.low_is; high_is = shape.high_is } in
     record {
       is_record = record {
         id = is.id;
         origin = record {
           x = origin.x;
           y = origin.y;
-          z = near_on map.bounds.lo.z map.bounds.hi.z (r.origin.z +ℤ up) r.mins.z r.maxs.z is_map.lo.z is_map.hi.z mins_z maxs_z (inside_parts map.bounds (body_of (raised r up)) inside).z;
+          z = near_on map.bounds.lo.z map.bounds.hi.z (r.origin.z +ℤ up) r.mins.z r.maxs.z is_map.lo.z is_map.hi.z mins_z maxs_z (inside_parts map.bounds (body_of (record_raised_by r up)) inside).z;
         };
-        shape = let Q : Kind → Type 0 = λ k. IsShapeOf k (raised r up).origin r.mins r.maxs in subst Q (sym kind) there;
+        shape = let Q : Kind → Type 0 = λ k. IsShapeOf k (record_raised_by r up).origin r.mins r.maxs in subst Q (sym kind) there;
         vel = is.vel;
         flags = is.flags;
         ammo = is.ammo;

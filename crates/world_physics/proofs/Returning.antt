@@ -10,7 +10,7 @@ use Rattle.entity_recs.specs.Kinds.{is_item}
 use Rattle.arena_map.proofs.Boxes.{three_parts}
 use Rattle.world_tree.specs.Live.{record_at}
 use Rattle.world_tree.specs.Worlds.{WorldView}
-use Rattle.world_physics.specs.Returns.{is_due, returned, changed_at}
+use Rattle.world_physics.specs.Returns.{is_due, record_after_returns, changed_at}
 use Rattle.world_physics.proofs.Changes.{IsChangedBelow, at-place, changed-same}
 
 -- the bounds of a record don't look at its state
@@ -19,7 +19,7 @@ record_in_any_state r state is =
     record { id = is.id; origin = is.origin; shape = is.shape; vel = is.vel; flags = is.flags; ammo = is.ammo; carry = is.carry }
 
 -- an item that is due returns
-pub due-returned : (frame : ℕ) (r back : Rec) → is_due frame r ≡ true → back ≡ with_state r 0 → back ≡ returned frame r
+pub due-returned : (frame : ℕ) (r back : Rec) → is_due frame r ≡ true → back ≡ with_state r 0 → back ≡ record_after_returns frame r
 due-returned frame r back due is = is ∙ sym (ap (λ b. cond b (with_state r 0) r) due)
 
 -- past the places nothing is live
@@ -32,7 +32,7 @@ zero_not : (state : ℕ) → not (state == 0) ≡ true → state ≢ 0
 zero_not state h same = let zero_there : (state == 0) ≡ true = grind (arith, nat_tests) in cc
 
 -- an item that is due changes
-pub due_changes : (frame : ℕ) (r : Rec) → is_due frame r ≡ true → returned frame r ≢ r
+pub due_changes : (frame : ℕ) (r : Rec) → is_due frame r ≡ true → record_after_returns frame r ≢ r
 due_changes frame r due same =
     let parts = three_parts (is_item r.kind) (not (r.state == 0)) (nat_le r.state frame) due in
     let back : with_state r 0 ≡ r = sym (ap (λ b. cond b (with_state r 0) r) due) ∙ same in
@@ -40,11 +40,11 @@ due_changes frame r due same =
 
 -- so the records do, where it is put back
 pub due_moves : (frame : ℕ) (records new : List (Option Rec)) (id : ℕ) (r : Rec) → record_at records id ≡ Some r → is_due frame r ≡ true
-    → new ≡ changed_at (returned frame) records id → new ≡ records → ⊥
+    → new ≡ changed_at (record_after_returns frame) records id → new ≡ records → ⊥
 due_moves frame records new id r at due made still =
-    let here : record_at new id ≡ Some (returned frame r) =
-    ap (λ (rs : List (Option Rec)). record_at rs id) made ∙ at-place records id (returned frame) ∙ ap (option_map (returned frame)) at in
-    due_changes frame r due (same_Some (returned frame r) r (sym here ∙ ap (λ (rs : List (Option Rec)). record_at rs id) still ∙ at))
+    let here : record_at new id ≡ Some (record_after_returns frame r) =
+    ap (λ (rs : List (Option Rec)). record_at rs id) made ∙ at-place records id (record_after_returns frame) ∙ ap (option_map (record_after_returns frame)) at in
+    due_changes frame r due (same_Some (record_after_returns frame r) r (sym here ∙ ap (λ (rs : List (Option Rec)). record_at rs id) still ∙ at))
 
 -- the world is as it was, where the records below an id don't change
 pub record IsStillBelow (f : Rec → Rec) (id : ℕ) (old new : WorldView) : Type 0 where

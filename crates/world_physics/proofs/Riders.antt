@@ -20,8 +20,8 @@ use Rattle.arena_map.proofs.Kept.{each-of}
 use Rattle.arena_map.proofs.Opening.{found-in}
 use Rattle.arena_map.proofs.ThingRecords.{own-id}
 use Rattle.world_tree.specs.Live.{record_at}
-use Rattle.world_physics.specs.Returns.{each_changed, returned, after_returns}
-use Rattle.world_physics.specs.LiftSteps.{is_carried, is_stopped, raised, distance_up, lift_after, moved_along, carried_along, step_of, after_step}
+use Rattle.world_physics.specs.Returns.{each_changed, record_after_returns, after_returns}
+use Rattle.world_physics.specs.LiftSteps.{is_carried, is_stopped, record_raised_by, distance_up, lift_after, moved_along, carried_along, step_of, after_step}
 use Rattle.world_physics.specs.Ticks.{after_lift, after_thing, after_things, after_tick}
 use Rattle.world_physics.specs.Laws.{goes_with, GoesAlong, IsOnlyLift, PlayersGoAlong}
 use Rattle.world_physics.proofs.Changes.{at-changed}
@@ -90,14 +90,14 @@ player_returned : (frame : ℕ) (records : List (Option Rec)) (slot : ℕ) (play
     → record_at (after_returns frame records) slot ≡ Some player
 player_returned frame records slot player kind at =
     let same = either_returned (λ s. s ≡ player) frame player refl (λ due. absurd (player_no_item player.kind kind (due_is_item frame player due))) in
-    at-changed (returned frame) records slot ∙ ap (option_map (returned frame)) at ∙ ap Some same
+    at-changed (record_after_returns frame) records slot ∙ ap (option_map (record_after_returns frame)) at ∙ ap Some same
 
-by_nothing : (r : Rec) (at : ℤ) → r ≡ raised r (at -ℤ at)
+by_nothing : (r : Rec) (at : ℤ) → r ≡ record_raised_by r (at -ℤ at)
 by_nothing r at =
     let none : r.origin.z ≡ r.origin.z +ℤ (at -ℤ at) = omega (arith, ints) in
     λ i. record r { origin = record { x = r.origin.x; y = r.origin.y; z = none i } }
 
-pub by_as_much : (r : Rec) (at up : ℤ) → raised r up ≡ raised r ((at +ℤ up) -ℤ at)
+pub by_as_much : (r : Rec) (at up : ℤ) → record_raised_by r up ≡ record_raised_by r ((at +ℤ up) -ℤ at)
 by_as_much r at up =
     let same : r.origin.z +ℤ up ≡ r.origin.z +ℤ ((at +ℤ up) -ℤ at) = omega (arith, ints) in
     λ i. record r { origin = record { x = r.origin.x; y = r.origin.y; z = same i } }
@@ -118,9 +118,9 @@ unfolding step_of
 made lift old player kind apart = record {
   along = λ h.
       not_lift
-      ∙ ap (λ b. cond b (raised player (distance_up lift old)) player) (carried-goes lift old player kind ∙ h)
+      ∙ ap (λ b. cond b (record_raised_by player (distance_up lift old)) player) (carried-goes lift old player kind ∙ h)
       ∙ by_as_much player old.origin.z (distance_up lift old);
-  left = λ h. not_lift ∙ ap (λ b. cond b (raised player (distance_up lift old)) player) (carried-goes lift old player kind ∙ h);
+  left = λ h. not_lift ∙ ap (λ b. cond b (record_raised_by player (distance_up lift old)) player) (carried-goes lift old player kind ∙ h);
 }
   where
     not_lift : moved_along (step_of lift old) player ≡ carried_along (step_of lift old) player

@@ -15,7 +15,7 @@ use Rattle.entity_recs.specs.Bodies.{body_of}
 use Rattle.arena_map.specs.declared.lift.Lift as lifts
 use Rattle.arena_map.specs.declared.map_line.MapLine.{MapLine}
 use Rattle.arena_map.specs.declared.map_line.MapLine.TheVariants.{Lift}
-use Rattle.arena_map.specs.Places.{shaft, shaft_of}
+use Rattle.arena_map.specs.Positions.{shaft, shaft_of}
 use Rattle.arena_map.specs.Things.{record_of, lift_data}
 use Rattle.arena_map.specs.Maps.{MapView, IsMap, lift_of}
 use Rattle.arena_map.specs.Validity.{IsSameLift}

@@ -4,7 +4,7 @@ use Rattle.std.proofs.lemmas.Int.{ints}
 use Rattle.arena_geo.specs.declared.vec3.Vec3.{Vec3}
 use Rattle.arena_geo.specs.Vectors.{zero_vector}
 use Rattle.arena_geo.specs.Bounds.{Bounds}
-use Rattle.arena_geo.specs.Boxes.{overlaps_on, overlaps, moved}
+use Rattle.arena_geo.specs.Boxes.{overlaps_on, overlaps, box_moved_by}
 use Rattle.arena_geo.proofs.Containment.{three_pass, all_three}
 use Rattle.arena_geo.proofs.Overlaps.{overlaps_on-stays, third_fails}
 use Rattle.entity_recs.specs.declared.kind.Kind.{Kind}
@@ -12,8 +12,8 @@ use Rattle.entity_recs.specs.declared.kind.Kind.TheVariants as kinds
 use Rattle.entity_recs.specs.declared.rec.Rec.{Rec}
 use Rattle.entity_recs.specs.declared.bodies.TheConstants.{PLAYER_MINS, PLAYER_MAXS}
 use Rattle.entity_recs.specs.Records.{HasCorners, IsMapBox, IsShapeOf}
-use Rattle.entity_recs.specs.Bodies.{standing, body_of}
-use Rattle.arena_map.specs.Places.{upwards}
+use Rattle.entity_recs.specs.Bodies.{box_at_origin, body_of}
+use Rattle.arena_map.specs.Positions.{upwards}
 use Rattle.world_physics.specs.LiftSteps.{stands_on}
 use Rattle.world_physics.specs.Standing.{IsAcross, IsOnTop, IsOnOrIn, AreLiftAndPlayer, StandingIsKnown}
 
@@ -64,14 +64,14 @@ level_of at lo size apart bottom top = grind (arith, ints)
 
 -- a player's body at this origin
 abbrev body_at : Vec3 → Bounds
-body_at at = standing at PLAYER_MINS PLAYER_MAXS
+body_at at = box_at_origin at PLAYER_MINS PLAYER_MAXS
 
 -- a lift's body with this low corner and this size
 abbrev lift_at : Vec3 → Vec3 → Bounds
-lift_at lo size = standing lo zero_vector size
+lift_at lo size = box_at_origin lo zero_vector size
 
 abbrev lowered : Bounds → Bounds
-lowered b = moved b (upwards (neg_ℤ (pos 1)))
+lowered b = box_moved_by b (upwards (neg_ℤ (pos 1)))
 
 record Meets (at lo size : Vec3) : Type 0 where
   low_x : lo.x <ℤ (at.x +ℤ pos 4096)
@@ -108,12 +108,12 @@ module _ (lift player : Rec) (are : AreLiftAndPlayer lift player) where
   player_body_is : body_of player ≡ body_at player.origin
   player_body_is =
       let corners = player_shape player.kind player.origin player.mins player.maxs are.player_is are.player_record.shape in
-      λ i. standing player.origin (corners.low_is i) (corners.high_is i)
+      λ i. box_at_origin player.origin (corners.low_is i) (corners.high_is i)
 
   lift_body_is : body_of lift ≡ lift_at lift.origin lift.maxs
   lift_body_is =
       let box = lift_shape lift.kind lift.origin lift.mins lift.maxs are.lift_is are.lift_record.shape in
-      λ i. standing lift.origin (box.low_is i) lift.maxs
+      λ i. box_at_origin lift.origin (box.low_is i) lift.maxs
 
   stands_is : stands_on lift player ≡ overlaps (lowered (body_at player.origin)) (lift_at lift.origin lift.maxs)
   stands_is = λ i. overlaps (lowered (player_body_is i)) (lift_body_is i)
@@ -139,12 +139,12 @@ module _ (lift player : Rec) (are : AreLiftAndPlayer lift player) where
   })
 
   on_or_in : stands_on lift player ≡ true → IsOnOrIn lift player
-  on_or_in standing = let m = meets standing in record { across = across m; bottom = m.bottom; top = m.top }
+  on_or_in box_at_origin = let m = meets box_at_origin in record { across = across m; bottom = m.bottom; top = m.top }
 
   on_top : overlaps (body_of player) (body_of lift) ≡ false → stands_on lift player ≡ true → IsOnTop lift player
-  on_top apart standing = record {
-    across = across (meets standing);
-    level = apart_level player.origin lift.origin lift.maxs (sym overlap_is ∙ apart) (sym stands_is ∙ standing);
+  on_top apart box_at_origin = record {
+    across = across (meets box_at_origin);
+    level = apart_level player.origin lift.origin lift.maxs (sym overlap_is ∙ apart) (sym stands_is ∙ box_at_origin);
   }
 
   -- a lift is longer than 0 up and down

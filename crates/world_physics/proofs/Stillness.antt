@@ -19,7 +19,7 @@ use Rattle.arena_map.proofs.ThingRecords.{own-id}
 use Rattle.world_tree.specs.Live.{record_at}
 use Rattle.world_tree.specs.Worlds.{WorldView}
 use Rattle.world_physics.specs.declared.lift_step.LiftStep.{LiftStep}
-use Rattle.world_physics.specs.Returns.{each_changed, is_due, returned, after_returns}
+use Rattle.world_physics.specs.Returns.{each_changed, is_due, record_after_returns, after_returns}
 use Rattle.world_physics.specs.LiftSteps.{is_stopped, lift_after, moved_along, step_of, after_step, IsOnItsWay}
 use Rattle.world_physics.specs.Ticks.{after_lift, after_thing, after_things, after_tick}
 use Rattle.world_physics.proofs.Changes.{at-changed, changed_none, changed_all}
@@ -112,7 +112,7 @@ module _ (map : MapView) (is_map : IsMap map) where
 
 -- where a tick leaves the records as they were, no item returns
 none_returns : (map : MapView) (frame : ℕ) (records : List (Option Rec)) → IsMap map → IsValidWorld map records → after_tick map frame records ≡ records
-    → (k : ℕ) (r : Rec) → record_at records k ≡ Some r → returned frame r ≡ r
+    → (k : ℕ) (r : Rec) → record_at records k ≡ Some r → record_after_returns frame r ≡ r
 none_returns map frame records is_map valid still k r at = by (is_due frame r) refl
   where
     by : (b : Bool) → is_due frame r ≡ b → cond b (with_state r 0) r ≡ r
@@ -120,14 +120,14 @@ none_returns map frame records is_map valid still k r at = by (is_due frame r) r
     by true e =
         let stays = in_tick map StaysUnlessSolid frame records is_map valid (stays_kept map is_map) k r r at (ap (λ (rs : List (Option Rec)). record_at rs k) still ∙ at) in
         let item = due_is_item frame r e in
-        let same : r ≡ returned frame r = stays.same (ap is_solid (kind_returned frame r) ∙ item_is_no_solid r.kind item) in
+        let same : r ≡ record_after_returns frame r = stays.same (ap is_solid (kind_returned frame r) ∙ item_is_no_solid r.kind item) in
         sym (same ∙ ap (λ b. cond b (with_state r 0) r) e)
 
 -- so the records are as they were after the returns, and after each lift's step
 pub returns_still : (map : MapView) (frame : ℕ) (records : List (Option Rec)) → IsMap map → IsValidWorld map records → after_tick map frame records ≡ records
     → after_returns frame records ≡ records
 returns_still map frame records is_map valid still =
-    sym (changed_all (returned frame) 0 records records (changed_none (returned frame) records) (λ k r past at. none_returns map frame records is_map valid still k r at))
+    sym (changed_all (record_after_returns frame) 0 records records (changed_none (record_after_returns frame) records) (λ k r past at. none_returns map frame records is_map valid still k r at))
 
 pub things_still : (map : MapView) (frame : ℕ) (records : List (Option Rec)) → IsMap map → IsValidWorld map records → after_tick map frame records ≡ records
     → (count : ℕ) → after_things map (after_returns frame records) (take count (entities_of map)) ≡ records

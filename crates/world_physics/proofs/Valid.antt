@@ -5,7 +5,7 @@ use Rattle.std.specs.Option.{option_map}
 use Rattle.std.proofs.lemmas.Bool.Decides.{nat_tests}
 use Rattle.std.proofs.lemmas.Option.{same_Some}
 use Rattle.std.proofs.lemmas.Bool.{and_parts, or_parts}
-use Rattle.arena_geo.specs.Boxes.{overlaps, moved, is_blocked}
+use Rattle.arena_geo.specs.Boxes.{overlaps, box_moved_by, is_blocked}
 use Rattle.entity_recs.specs.declared.kind.Kind.{Kind}
 use Rattle.entity_recs.specs.declared.kind.Kind.TheVariants as kinds
 use Rattle.entity_recs.specs.declared.rec.Rec.{Rec}
@@ -13,13 +13,13 @@ use Rattle.entity_recs.specs.Records.{IsIdOf, with_state}
 use Rattle.entity_recs.specs.Bodies.{body_of}
 use Rattle.entity_recs.specs.Kinds.{is_item, is_player}
 use Rattle.arena_map.specs.declared.lift.Lift.{Lift}
-use Rattle.arena_map.specs.Places.{upwards}
+use Rattle.arena_map.specs.Positions.{upwards}
 use Rattle.arena_map.specs.Maps.{MapView, IsMap, entities_of, lift_of, solids_of}
 use Rattle.arena_map.specs.Validity.{IsSameLift, IsAsItsLine, IsThing, IsStateOn, IsValidRecord, IsValidWorld}
 use Rattle.world_tree.specs.Live.{record_at}
 use Rattle.world_physics.specs.declared.lift_step.LiftStep.{LiftStep}
-use Rattle.world_physics.specs.Returns.{each_changed, is_due, returned, after_returns}
-use Rattle.world_physics.specs.LiftSteps.{is_carried, stands_on, is_obstructed, is_pressed, is_stopped, raised, moved_along, after_step, HasRoom}
+use Rattle.world_physics.specs.Returns.{each_changed, is_due, record_after_returns, after_returns}
+use Rattle.world_physics.specs.LiftSteps.{is_carried, stands_on, is_obstructed, is_pressed, is_stopped, record_raised_by, moved_along, after_step, HasRoom}
 use Rattle.world_physics.proofs.Changes.{at-changed, was_before}
 use Rattle.world_physics.proofs.Finding.{not_found}
 use Rattle.world_physics.proofs.Raised.{raised_is_valid}
@@ -82,7 +82,7 @@ valid_in_state map id r state valid is =
     }
 
 -- what holds of a record and of the item that is there again holds after the returns
-pub either_returned : (P : Rec → Type 0) (frame : ℕ) (r : Rec) → P r → (is_due frame r ≡ true → P (with_state r 0)) → P (returned frame r)
+pub either_returned : (P : Rec → Type 0) (frame : ℕ) (r : Rec) → P r → (is_due frame r ≡ true → P (with_state r 0)) → P (record_after_returns frame r)
 either_returned P frame r stays back = by (is_due frame r) refl
   where
     by : (b : Bool) → is_due frame r ≡ b → P (cond b (with_state r 0) r)
@@ -91,7 +91,7 @@ either_returned P frame r stays back = by (is_due frame r) refl
 
 pub returns_keep_valid : (map : MapView) (frame : ℕ) (records : List (Option Rec)) → IsValidWorld map records → IsValidWorld map (after_returns frame records)
 returns_keep_valid map frame records valid =
-    valid-changed map (returned frame) records valid (record {
+    valid-changed map (record_after_returns frame) records valid (record {
       each = λ id r at.
           let here = valid.each id r at in
           either_returned (IsValidRecord map id) frame r here (λ due. valid_in_state map id r 0 here (item_state map r.kind 0 (due_is_item frame r due)));
@@ -118,7 +118,7 @@ not_both false b h a = cc
 
 -- where the step isn't stopped, the body of who is carried isn't obstructed where it gets to
 pub has_way : (map : MapView) (step : LiftStep) (records : List (Option Rec)) (id : ℕ) (r : Rec) → is_stopped map step records ≡ false → record_at records id ≡ Some r
-    → is_carried step r ≡ true → is_obstructed map step records (moved (body_of r) (upwards step.up)) ≡ false
+    → is_carried step r ≡ true → is_obstructed map step records (box_moved_by (body_of r) (upwards step.up)) ≡ false
 unfolding is_stopped
 has_way map step records id r free at carried = not_both _ _ (not_found (is_pressed map step records) records id r free at) carried
 
@@ -132,10 +132,10 @@ kind_of_thing kind id own past is = let P : Kind → Type 0 = λ k. IsIdOf k id 
 module _ (map : MapView) (records : List (Option Rec)) (id : ℕ) (step : LiftStep) (is_map : IsMap map) (valid : IsValidWorld map records) (is : IsStepAt map records id step)
     (free : is_stopped map step records ≡ false) where
   -- who is carried is as valid where it gets to
-  pub carried_valid : (k : ℕ) (r : Rec) → record_at records k ≡ Some r → is_carried step r ≡ true → IsValidRecord map k (raised r step.up)
+  pub carried_valid : (k : ℕ) (r : Rec) → record_at records k ≡ Some r → is_carried step r ≡ true → IsValidRecord map k (record_raised_by r step.up)
   carried_valid k r at carried =
       raised_is_valid map k r step.up is_map (valid.each k r at) (carried_is_player step r carried) is.far
-      (clear_way map step records (moved (body_of r) (upwards step.up)) (has_way map step records k r free at carried))
+      (clear_way map step records (box_moved_by (body_of r) (upwards step.up)) (has_way map step records k r free at carried))
 
   pub has_room : (slot : ℕ) → HasRoom step records slot
   has_room slot = record { moved_is_record = λ r at carried. (carried_valid slot r at carried).is_record }
@@ -150,10 +150,10 @@ module _ (map : MapView) (records : List (Option Rec)) (id : ℕ) (step : LiftSt
 
   -- what holds of each record, of the lift after its step, and of who is carried where it gets to, holds after the step
   pub either_moved : (P : ℕ → Rec → Type 0) (k : ℕ) (r : Rec) → record_at records k ≡ Some r → P k r → (k ≡ id → P k step.after)
-      → (is_carried step r ≡ true → P k (raised r step.up)) → P k (moved_along step r)
+      → (is_carried step r ≡ true → P k (record_raised_by r step.up)) → P k (moved_along step r)
   either_moved P k r at stays lift carried = by (r.id == step.before.id) (is_carried step r) refl refl
     where
-      by : (b c : Bool) → (r.id == step.before.id) ≡ b → is_carried step r ≡ c → P k (cond b step.after (cond c (raised r step.up) r))
+      by : (b c : Bool) → (r.id == step.before.id) ≡ b → is_carried step r ≡ c → P k (cond b step.after (cond c (record_raised_by r step.up) r))
       by true c e f = lift (at_lift k r at e)
       by false true e f = carried f
       by false false e f = stays

@@ -4,7 +4,7 @@ use Rattle.std.proofs.lemmas.Int.{ints, clamps}
 use Rattle.std.specs.Int.{int_min, int_max}
 use Rattle.entity_recs.specs.declared.rec.Rec.{Rec}
 use Rattle.arena_map.specs.declared.lift.Lift.{Lift}
-use Rattle.world_physics.specs.LiftSteps.{height_of, next_height, next_state, distance_up, raised, step_of, IsHeight, IsOnItsWay}
+use Rattle.world_physics.specs.LiftSteps.{height_of, next_height, next_state, distance_up, record_raised_by, step_of, IsHeight, IsOnItsWay}
 use Rattle.world_physics.specs.declared.lift_step.LiftStep.{LiftStep}
 
 -- a lift on its way has a height
@@ -59,10 +59,10 @@ way_fits lift r way =
     record { up = omega (arith, ints, far); place = place_fits lift r (distance_up lift r) way far }
 
 -- the step, from its parts
-pub step-is : (lift : Lift) (r after : Rec) (up kept : ℤ) (state : ℕ) → kept ≡ up → up ≡ distance_up lift r → after ≡ raised r kept → state ≡ next_state lift r
+pub step-is : (lift : Lift) (r after : Rec) (up kept : ℤ) (state : ℕ) → kept ≡ up → up ≡ distance_up lift r → after ≡ record_raised_by r kept → state ≡ next_state lift r
     → ◌≡◌ {A = LiftStep} (record { before = r; after = record after { state = state }; up = kept }) (step_of lift r)
 unfolding step_of
 step-is lift r after up kept state kept_is up_is after_is state_is =
     let at = kept_is ∙ up_is in
-    let there = after_is ∙ ap (raised r) at in
+    let there = after_is ∙ ap (record_raised_by r) at in
     λ i. record { before = r; after = record (there i) { state = state_is i }; up = at i }

@@ -15,7 +15,7 @@ use Rattle.arena_map.specs.MapLines.{is_lift}
 use Rattle.arena_map.specs.Maps.{MapView, IsMap, entities_of, lift_of, solids_of}
 use Rattle.arena_map.specs.Validity.{IsValidWorld, AreClear}
 use Rattle.world_tree.specs.Live.{record_at}
-use Rattle.world_physics.specs.LiftSteps.{IsOnItsWay, stands_on, raised, lift_after}
+use Rattle.world_physics.specs.LiftSteps.{IsOnItsWay, stands_on, record_raised_by, lift_after}
 use Rattle.world_physics.specs.Returns.{after_returns}
 use Rattle.world_physics.specs.Ticks.{after_tick}
 
@@ -62,8 +62,8 @@ pub record ChangesOnly (old new : Rec) : Type 0 where
   pub state : has_state old.kind ≡ false → new.state ≡ old.state
 
 -- so it is with each record
-abbrev pub OnlyPlacesAndStatesChange : Type 0
-OnlyPlacesAndStatesChange =
+abbrev pub OnlyOriginsAndStatesChange : Type 0
+OnlyOriginsAndStatesChange =
     (map : MapView) (frame : ℕ) (records : List (Option Rec)) (id : ℕ) (old new : Rec) → IsMap map
     → IsValidWorld map records → record_at records id ≡ Some old
     → record_at (after_tick map frame records) id ≡ Some new → ChangesOnly old new
@@ -119,7 +119,7 @@ goes_with lift old player = stands_on old player || overlaps (body_of player) (b
 
 -- a player after a tick is as much higher or lower as the lift is where it goes with the lift, and else as it was
 pub record GoesAlong (lift : Lift) (old new player after : Rec) : Type 0 where
-  pub along : goes_with lift old player ≡ true → after ≡ raised player (new.origin.z -ℤ old.origin.z)
+  pub along : goes_with lift old player ≡ true → after ≡ record_raised_by player (new.origin.z -ℤ old.origin.z)
   pub left : goes_with lift old player ≡ false → after ≡ player
 
 -- no other id is that of a lift
@@ -161,7 +161,7 @@ pub record IsHeld (map : MapView) (records : List (Option Rec)) (id : ℕ) (lift
   pub is_player : player.kind ≡ kinds.Player
   pub goes : goes_with lift old player ≡ true
   pub no_room : HasNoRoom map records id lift old
-      (body_of (raised player ((lift_after lift old).origin.z -ℤ old.origin.z)))
+      (body_of (record_raised_by player ((lift_after lift old).origin.z -ℤ old.origin.z)))
 
 -- a lift that no player holds makes its whole step, and one that a player holds is as it was
 pub record StepsUnlessHeld (map : MapView) (records : List (Option Rec)) (id : ℕ) (lift : Lift) (old new : Rec)

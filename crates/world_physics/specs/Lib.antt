@@ -6,7 +6,7 @@ pub use Rattle.entity_recs.specs.Kinds
 pub use Rattle.entity_recs.specs.Records
 pub use Rattle.entity_recs.specs.Bodies
 pub use Rattle.arena_map.specs.MapLines
-pub use Rattle.arena_map.specs.Places
+pub use Rattle.arena_map.specs.Positions
 pub use Rattle.arena_map.specs.Maps
 pub use Rattle.arena_map.specs.Validity
 pub use Rattle.world_tree.specs.Live

@@ -6,13 +6,13 @@ use Rattle.std.specs.Ordering.{int_eq}
 use Rattle.std.specs.Int.{int_min, int_max}
 use Rattle.arena_geo.specs.Vectors.{vector}
 use Rattle.arena_geo.specs.Bounds.{Bounds}
-use Rattle.arena_geo.specs.Boxes.{moved, overlaps, is_blocked}
+use Rattle.arena_geo.specs.Boxes.{box_moved_by, overlaps, is_blocked}
 use Rattle.entity_recs.specs.declared.rec.Rec.{Rec}
 use Rattle.entity_recs.specs.Kinds.{is_solid, is_player}
 use Rattle.entity_recs.specs.Records.{IsRecord}
 use Rattle.entity_recs.specs.Bodies.{body_of}
 use Rattle.arena_map.specs.declared.lift.Lift.{Lift}
-use Rattle.arena_map.specs.Places.{upwards}
+use Rattle.arena_map.specs.Positions.{upwards}
 use Rattle.arena_map.specs.Maps.{MapView, IsLift, solids_of}
 use Rattle.world_tree.specs.Live.{record_at, live_in}
 use Rattle.world_physics.specs.declared.lift_step.LiftStep.{LiftStep}
@@ -42,12 +42,12 @@ abbrev pub distance_up : Lift → Rec → ℤ
 distance_up lift r = next_height lift r -ℤ height_of lift r
 
 -- the record so far higher
-abbrev pub raised : Rec → ℤ → Rec
-raised r up = record r { origin = vector r.origin.x r.origin.y (r.origin.z +ℤ up) }
+abbrev pub record_raised_by : Rec → ℤ → Rec
+record_raised_by r up = record r { origin = vector r.origin.x r.origin.y (r.origin.z +ℤ up) }
 
 -- the lift's record after its step
 abbrev pub lift_after : Lift → Rec → Rec
-lift_after lift r = record (raised r (distance_up lift r)) { state = next_state lift r }
+lift_after lift r = record (record_raised_by r (distance_up lift r)) { state = next_state lift r }
 
 -- the step of the lift with this record: the record before and after it, and how far up it is
 unfoldable pub step_of : Lift → Rec → LiftStep
@@ -75,7 +75,7 @@ pub record IsStep (step : LiftStep) : Type 0 where
 
 -- the player stands on the lift: its body, moved down by 1, overlaps the lift
 abbrev pub stands_on : Rec → Rec → Bool
-stands_on lift r = overlaps (moved (body_of r) (upwards (neg_ℤ (pos 1)))) (body_of lift)
+stands_on lift r = overlaps (box_moved_by (body_of r) (upwards (neg_ℤ (pos 1)))) (body_of lift)
 
 -- the step carries the players that stand on the lift, and those whose bodies overlap the lift's new box
 abbrev pub is_carried : LiftStep → Rec → Bool
@@ -99,7 +99,7 @@ is_obstructed map step records body =
 -- the record is that of a carried player whose body, moved with the lift, has no room
 abbrev pub is_pressed : MapView → LiftStep → List (Option Rec) → Rec → Bool
 is_pressed map step records r =
-    is_carried step r && is_obstructed map step records (moved (body_of r) (upwards step.up))
+    is_carried step r && is_obstructed map step records (box_moved_by (body_of r) (upwards step.up))
 
 -- the step would press a player
 unfoldable pub is_stopped : MapView → LiftStep → List (Option Rec) → Bool
@@ -109,12 +109,12 @@ is_stopped map step records = list_any (is_pressed map step records) (live_in re
 
 -- a player that is carried, with its z alone changed; the other records as they were
 abbrev pub carried_along : LiftStep → Rec → Rec
-carried_along step r = if is_carried step r then raised r step.up else r
+carried_along step r = if is_carried step r then record_raised_by r step.up else r
 
 -- a carried player in this slot stays within the bounds of records
 pub record HasRoom (step : LiftStep) (records : List (Option Rec)) (slot : ℕ) : Type 0 where
   pub moved_is_record : (r : Rec) → record_at records slot ≡ Some r → is_carried step r ≡ true
-      → IsRecord (raised r step.up)
+      → IsRecord (record_raised_by r step.up)
 
 -- a record after the step: the lift's, a carried player's, or as it was
 abbrev pub moved_along : LiftStep → Rec → Rec

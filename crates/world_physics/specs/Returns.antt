@@ -19,9 +19,9 @@ abbrev pub is_due : ℕ → Rec → Bool
 is_due frame r = is_item r.kind && not (r.state == 0) && nat_le r.state frame
 
 -- the record after the items of a frame have returned: an item that is due is there again
-abbrev pub returned : ℕ → Rec → Rec
-returned frame r = if is_due frame r then with_state r 0 else r
+abbrev pub record_after_returns : ℕ → Rec → Rec
+record_after_returns frame r = if is_due frame r then with_state r 0 else r
 
 -- the records by id after the items of a frame have returned
 abbrev pub after_returns : ℕ → List (Option Rec) → List (Option Rec)
-after_returns frame records = each_changed (returned frame) records
+after_returns frame records = each_changed (record_after_returns frame) records

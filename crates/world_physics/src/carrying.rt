@@ -3,7 +3,7 @@ ghost use Rattle.world_tree.specs.Worlds.{IsLinked};
 ghost use Rattle.world_physics.specs.Returns.{each_changed, changed_at};
 ghost use Rattle.world_physics.specs.LiftSteps.{IsStep, HasRoom, carried_along};
 
-use crate::lift_step::{LiftStep, raised};
+use crate::lift_step::{LiftStep, record_raised_by};
 use entity_recs::SLOTS;
 use world_tree::World;
 
@@ -18,7 +18,7 @@ fn carry_slot(world: &mut World, step: &LiftStep, slot: u16)
 {
     if let Some(r) = world.get(slot) {
         if step.carries(&r) {
-            world.relink(raised(&r, step.up));
+            world.relink(record_raised_by(&r, step.up));
         }
     }
 }

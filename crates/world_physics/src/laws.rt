@@ -1,5 +1,5 @@
 ghost use Rattle.world_physics.specs.Laws.{ValidWorldsStayValid, IdsStay, PlayersKeepRoom, LiftsStayOnTheirWay};
-ghost use Rattle.world_physics.specs.Laws.{OnlyPlacesAndStatesChange, ItemsReturnAtTheirFrame};
+ghost use Rattle.world_physics.specs.Laws.{OnlyOriginsAndStatesChange, ItemsReturnAtTheirFrame};
 ghost use Rattle.world_physics.specs.Laws.{LiftsMakeTheirStep, StepsAreWhole, PlayersGoAlong, OnlyPlayersHoldLifts};
 ghost use Rattle.world_physics.specs.Laws.{LiftsStepInTurn};
 ghost use Rattle.world_physics.specs.Standing.{StandingIsKnown};
@@ -26,8 +26,8 @@ pub fn lifts_stay_on_their_way()
 {}
 
 /// A tick changes the z of players and lifts and the state of items and lifts, and nothing else of any record.
-pub fn only_places_and_states_change()
-    ensures { OnlyPlacesAndStatesChange }
+pub fn only_origins_and_states_change()
+    ensures { OnlyOriginsAndStatesChange }
 {}
 
 /// A taken item is there again after the tick of its frame, and not before.

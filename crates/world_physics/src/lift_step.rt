@@ -1,7 +1,7 @@
 ghost use Rattle.std.specs.Prelude.{◌≡◌, ◌≤◌, ◌+ℤ◌, ◌-ℤ◌, pos, unsigned_abs, FitsSigned};
 ghost use Rattle.std.specs.Int.{w32, int_min, int_max};
-ghost use Rattle.arena_geo.specs.Boxes.{moved};
-ghost use Rattle.arena_map.specs.Places.{upwards};
+ghost use Rattle.arena_geo.specs.Boxes.{box_moved_by};
+ghost use Rattle.arena_map.specs.Positions.{upwards};
 ghost use Rattle.entity_recs.specs.Kinds as kinds;
 ghost use Rattle.entity_recs.specs.Records.{IsRecord};
 ghost use Rattle.entity_recs.specs.Bodies.{body_of};
@@ -32,7 +32,7 @@ fn height(lift: &Lift, r: &Rec) -> i32
 }
 
 /// How high a lift is after it has risen from this height, at most as high as its rise.
-fn risen(lift: &Lift, height: i32) -> i32
+fn height_after_rise(lift: &Lift, height: i32) -> i32
     requires { IsHeight lift.now height }
     ensures { result ≡ int_min (height +ℤ lift.now.speed) lift.now.rise }
 {
@@ -40,7 +40,7 @@ fn risen(lift: &Lift, height: i32) -> i32
 }
 
 /// How high a lift is after it has fallen from this height, at least 0.
-fn fallen(lift: &Lift, height: i32) -> i32
+fn height_after_fall(lift: &Lift, height: i32) -> i32
     requires { IsHeight lift.now height }
     ensures { result ≡ int_max (height -ℤ lift.now.speed) (pos 0) }
 {
@@ -54,9 +54,9 @@ fn next_height(lift: &Lift, r: &Rec) -> i32
 {
     let height = height(lift, r);
     if r.state == 0 {
-        risen(lift, height)
+        height_after_rise(lift, height)
     } else {
-        fallen(lift, height)
+        height_after_fall(lift, height)
     }
 }
 
@@ -85,9 +85,9 @@ fn next_state(lift: &Lift, r: &Rec, next: i32) -> u64
 }
 
 /// The record so far higher.
-pub fn raised(r: &Rec, up: i32) -> Rec
+pub fn record_raised_by(r: &Rec, up: i32) -> Rec
     requires { FitsSigned w32 (r.now.origin.z +ℤ up) }
-    ensures { result ≡ steps.raised r.now up }
+    ensures { result ≡ steps.record_raised_by r.now up }
 {
     let origin = Vec3 {
         z: r.origin.z + up,
@@ -100,7 +100,7 @@ pub fn raised(r: &Rec, up: i32) -> Rec
 pub fn raised_body(r: &Rec, up: i32) -> Aabb
     requires record { IsRecord r.now }
     requires far { unsigned_abs up ≤ 2560 }
-    ensures { result ≡ moved (body_of r.now) (upwards up) }
+    ensures { result ≡ box_moved_by (body_of r.now) (upwards up) }
 {
     body_box(r).shifted(Vec3 { x: 0, y: 0, z: up })
 }
@@ -125,7 +125,7 @@ impl LiftStep {
         let up = distance_up(lift, r, next);
         let after = Rec {
             state: next_state(lift, r, next),
-            ..raised(r, up)
+            ..record_raised_by(r, up)
         };
         LiftStep {
             before: *r,

@@ -2,7 +2,7 @@ ghost use Rattle.std.specs.Prelude.{◌≡◌, ◌<◌};
 ghost use Rattle.entity_recs.specs.Records.{with_state};
 ghost use Rattle.world_tree.specs.Worlds.{IsLinked};
 ghost use Rattle.world_physics.specs.Returns as spec;
-ghost use Rattle.world_physics.specs.Returns.{after_returns, changed_at, returned};
+ghost use Rattle.world_physics.specs.Returns.{after_returns, changed_at, record_after_returns};
 
 use entity_recs::{IDS, Rec};
 use world_tree::World;
@@ -24,7 +24,7 @@ fn back(r: &Rec) -> Rec
 /// Puts the item with this id back, if it is due in the frame.
 fn return_item(world: &mut World, id: u16, frame: u32)
     requires { id < IDS }
-    ensures records { world.new.records ≡ changed_at (returned frame) world.old.records id }
+    ensures records { world.new.records ≡ changed_at (record_after_returns frame) world.old.records id }
     ensures tree { world.new.tree ≡ world.old.tree }
     ensures linked { IsLinked world.new }
     ensures still { world.new.records ≡ world.old.records → world.new ≡ world.old }

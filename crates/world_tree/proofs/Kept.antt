@@ -12,7 +12,7 @@ use Rattle.entity_recs.specs.declared.rec.Rec.{Rec}
 use Rattle.entity_recs.specs.Kinds.{is_solid}
 use Rattle.entity_recs.specs.Records.{IsRecord}
 use Rattle.entity_recs.specs.Bodies.{abs_of}
-use Rattle.link_lists.specs.Pool.{ListsView, inserted, removed, IsProper, SetsOnly}
+use Rattle.link_lists.specs.Pool.{ListsView, lists_after_insert, lists_after_remove, IsProper, SetsOnly}
 use Rattle.world_tree.specs.Live.{record_at, ids_of, boxes_of, place_in}
 use Rattle.world_tree.specs.Worlds.{WorldView, world_of, record_of, list_for, IsLinked, IsKept, with_record, without_id}
 use Rattle.world_tree.proofs.Links.{id-below, linked_with, linked_without}
@@ -156,7 +156,7 @@ module _ (w : WorldView) (boxes : List (Option Bounds)) (live : List ℕ) (kept 
 
   pub kept_with : (r : Rec) (lists : ListsView) (k place : ℕ) (abs : Bounds) (more : List ℕ)
       → place ≡ r.id → IsRecord r → record_of w r.id ≡ None → abs ≡ abs_of r
-      → k ≡ (if is_solid r.kind then node_of w.tree abs else nodes_in w.tree.depth + node_of w.tree abs) → lists ≡ inserted w.lists k r.id
+      → k ≡ (if is_solid r.kind then node_of w.tree abs else nodes_in w.tree.depth + node_of w.tree abs) → lists ≡ lists_after_insert w.lists k r.id
       → SetsOnly w.lists lists r.id (Some k) → IsProper lists → more ≡ insert live (place_in live r.id) r.id
       → IsKept (world_of w.tree (slice_set w.records place (Some r)) lists) (slice_set boxes place (Some abs)) more
   kept_with r lists k place abs more own is free box list made sets proper grown = record {
@@ -188,7 +188,7 @@ module _ (w : WorldView) (boxes : List (Option Bounds)) (live : List ℕ) (kept 
           ∙ ap (λ (l : List ℕ). remove l (place_in l id)) (sym kept.live_are)
 
   pub kept_without : (id place : ℕ) (lists : ListsView) (less : List ℕ) → place ≡ id → IsSome (record_of w id)
-      → lists ≡ removed w.lists id → SetsOnly w.lists lists id None → IsProper lists → less ≡ remove live (place_in live id)
+      → lists ≡ lists_after_remove w.lists id → SetsOnly w.lists lists id None → IsProper lists → less ≡ remove live (place_in live id)
       → IsKept (world_of w.tree (slice_set w.records place None) lists) (slice_set boxes place None) less
   kept_without id place lists less own is made sets proper shorter = record {
     linked = linked_without w kept.linked id place lists own made sets proper;
@@ -207,8 +207,8 @@ module _ (w : WorldView) (boxes : List (Option Bounds)) (live : List ℕ) (kept 
   -- a record put in place of the one with its id
   pub kept_again : (r : Rec) (cut lists : ListsView) (k place : ℕ) (abs : Bounds)
       → place ≡ r.id → IsRecord r → IsSome (record_of w r.id) → abs ≡ abs_of r
-      → cut ≡ removed w.lists r.id → SetsOnly w.lists cut r.id None → IsProper cut
-      → k ≡ (if is_solid r.kind then node_of w.tree abs else nodes_in w.tree.depth + node_of w.tree abs) → lists ≡ inserted cut k r.id
+      → cut ≡ lists_after_remove w.lists r.id → SetsOnly w.lists cut r.id None → IsProper cut
+      → k ≡ (if is_solid r.kind then node_of w.tree abs else nodes_in w.tree.depth + node_of w.tree abs) → lists ≡ lists_after_insert cut k r.id
       → SetsOnly cut lists r.id (Some k) → IsProper lists
       → IsKept (world_of w.tree (slice_set w.records place (Some r)) lists) (slice_set boxes place (Some abs)) live
   kept_again r cut lists k place abs own is live_id box unlinked cut_sets cut_proper list made sets proper = record {
@@ -222,10 +222,10 @@ module _ (w : WorldView) (boxes : List (Option Bounds)) (live : List ℕ) (kept 
 
   -- it is the world without the old record, with the new one
   pub world_again : (r : Rec) (cut lists : ListsView) (k place : ℕ) (abs : Bounds)
-      → place ≡ r.id → abs ≡ abs_of r → cut ≡ removed w.lists r.id
-      → k ≡ (if is_solid r.kind then node_of w.tree abs else nodes_in w.tree.depth + node_of w.tree abs) → lists ≡ inserted cut k r.id
+      → place ≡ r.id → abs ≡ abs_of r → cut ≡ lists_after_remove w.lists r.id
+      → k ≡ (if is_solid r.kind then node_of w.tree abs else nodes_in w.tree.depth + node_of w.tree abs) → lists ≡ lists_after_insert cut k r.id
       → world_of w.tree (slice_set w.records place (Some r)) lists ≡ with_record (without_id w r.id) r
   world_again r cut lists k place abs own box unlinked list made =
       ap (λ rs. world_of w.tree rs lists) (ap (λ i. slice_set w.records i (Some r)) own ∙ sym (set-set w.records r.id None (Some r)))
       ∙ ap (λ p. world_of w.tree (slice_set (slice_set w.records r.id None) r.id (Some r)) p)
-      (made ∙ ap (λ p. inserted p k r.id) unlinked ∙ ap (λ n. inserted (removed w.lists r.id) n r.id) (list-by_box r k abs box list))
+      (made ∙ ap (λ p. lists_after_insert p k r.id) unlinked ∙ ap (λ n. lists_after_insert (lists_after_remove w.lists r.id) n r.id) (list-by_box r k abs box list))

@@ -9,7 +9,7 @@ use Rattle.entity_recs.specs.declared.limits.TheConstants.{IDS}
 use Rattle.entity_recs.specs.declared.rec.Rec.{Rec}
 use Rattle.entity_recs.specs.Records.{IsRecord}
 use Rattle.entity_recs.proofs.Ids.{id_in}
-use Rattle.link_lists.specs.Pool.{ListsView, where_of, empty_pool, inserted, removed, IsProper, SetsOnly}
+use Rattle.link_lists.specs.Pool.{ListsView, where_of, empty_pool, lists_after_insert, lists_after_remove, IsProper, SetsOnly}
 use Rattle.link_lists.proofs.Pools.{IsProper-empty, where_of-empty}
 use Rattle.world_tree.specs.Live.{record_at, IsEntry, AreEntries}
 use Rattle.world_tree.specs.Worlds.{WorldView, world_of, list_for, IsLinked}
@@ -51,7 +51,7 @@ module _ (w : WorldView) (linked : IsLinked w) where
   ]
 
   linked_with_own : (r : Rec) (lists : ListsView) (k : ℕ)
-      → IsRecord r → k ≡ list_for w.tree r → lists ≡ inserted w.lists k r.id
+      → IsRecord r → k ≡ list_for w.tree r → lists ≡ lists_after_insert w.lists k r.id
       → SetsOnly w.lists lists r.id (Some k) → IsProper lists
       → IsLinked (world_of w.tree (slice_set w.records r.id (Some r)) lists)
   linked_with_own r lists k is list made sets proper = record {
@@ -74,7 +74,7 @@ module _ (w : WorldView) (linked : IsLinked w) where
   }
 
   pub linked_with : (r : Rec) (lists : ListsView) (k place : ℕ)
-      → place ≡ r.id → IsRecord r → k ≡ list_for w.tree r → lists ≡ inserted w.lists k r.id
+      → place ≡ r.id → IsRecord r → k ≡ list_for w.tree r → lists ≡ lists_after_insert w.lists k r.id
       → SetsOnly w.lists lists r.id (Some k) → IsProper lists
       → IsLinked (world_of w.tree (slice_set w.records place (Some r)) lists)
   linked_with r lists k place own is list made sets proper =
@@ -88,7 +88,7 @@ module _ (w : WorldView) (linked : IsLinked w) where
   ]
 
   linked_without_own : (id : ℕ) (lists : ListsView)
-      → lists ≡ removed w.lists id → SetsOnly w.lists lists id None → IsProper lists
+      → lists ≡ lists_after_remove w.lists id → SetsOnly w.lists lists id None → IsProper lists
       → IsLinked (world_of w.tree (slice_set w.records id None) lists)
   linked_without_own id lists made sets proper = record {
     depth = linked.depth;
@@ -111,7 +111,7 @@ module _ (w : WorldView) (linked : IsLinked w) where
   }
 
   pub linked_without : (id place : ℕ) (lists : ListsView)
-      → place ≡ id → lists ≡ removed w.lists id → SetsOnly w.lists lists id None → IsProper lists
+      → place ≡ id → lists ≡ lists_after_remove w.lists id → SetsOnly w.lists lists id None → IsProper lists
       → IsLinked (world_of w.tree (slice_set w.records place None) lists)
   linked_without id place lists own made sets proper =
       subst (λ i. IsLinked (world_of w.tree (slice_set w.records i None) lists)) (sym own) (linked_without_own id lists made sets proper)

@@ -7,7 +7,7 @@ use Rattle.entity_recs.specs.declared.limits.TheConstants.{IDS}
 use Rattle.entity_recs.specs.declared.rec.Rec.{Rec}
 use Rattle.entity_recs.specs.Kinds.{is_solid}
 use Rattle.entity_recs.specs.Bodies.{abs_of}
-use Rattle.link_lists.specs.Pool.{ListsView, IsProper, where_of, empty_pool, inserted, removed}
+use Rattle.link_lists.specs.Pool.{ListsView, IsProper, where_of, empty_pool, lists_after_insert, lists_after_remove}
 use Rattle.world_tree.specs.Live.{record_at, ids_of, boxes_of, AreEntries}
 
 -- the tree, the record at the place of each id, and the ids of each list
@@ -60,12 +60,12 @@ abbrev pub with_record : WorldView → Rec → WorldView
 with_record w r = record {
   tree = w.tree;
   records = slice_set w.records r.id (Some r);
-  lists = inserted w.lists (list_for w.tree r) r.id;
+  lists = lists_after_insert w.lists (list_for w.tree r) r.id;
 }
 
 -- the world without this id, which is in no list; the others keep their order
 abbrev pub without_id : WorldView → ℕ → WorldView
-without_id w id = record { tree = w.tree; records = slice_set w.records id None; lists = removed w.lists id }
+without_id w id = record { tree = w.tree; records = slice_set w.records id None; lists = lists_after_remove w.lists id }
 
 -- the world with these records put in, one after another
 abbrev pub with_records : WorldView → List Rec → WorldView

@@ -43,7 +43,7 @@ fn is_touched(boxes: &[Option<Aabb>], region: &Region, id: u16) -> bool
     ensures { result ≡ walks.touches_at boxes.now region.now id }
 {
     match box_at(boxes, id) {
-        Some(abs) => region.touched(&abs),
+        Some(abs) => region.is_touched_by(&abs),
         None => false,
     }
 }

@@ -226,7 +226,7 @@ impl World {
         ensures records { out.new ≡ record out.old { items = near_in self.now.records r.now except } }
         ensures linked { IsLinked self.now }
     {
-        let nodes = self.tree.visited(self.tree.leaves_of(r));
+        let nodes = self.tree.visited_nodes(self.tree.leaves_of(r));
         let mut marks = touched_at(&self.lists, &self.boxes, r, nodes, self.tree.nodes());
         unmark(&mut marks, except);
         gather(&self.records, &marks, out);
@@ -244,7 +244,7 @@ impl World {
         ensures linked { IsLinked self.now }
     {
         let region = Region::one(*abs);
-        let nodes = self.tree.visited(self.tree.leaves_of(&region));
+        let nodes = self.tree.visited_nodes(self.tree.leaves_of(&region));
         let count = self.tree.nodes();
         let marks = touched_triggers(&self.lists, &self.boxes, &region, nodes, count, steps);
         gather(&self.records, &marks, out);

@@ -11,7 +11,7 @@ use Rattle.std.proofs.lemmas.List.Folds.{list_any_at}
 use Rattle.arena_geo.specs.declared.vec3.Vec3.{Vec3}
 use Rattle.arena_geo.specs.Vectors.{IsNotNegative}
 use Rattle.arena_geo.specs.Bounds.{Bounds, IsBox}
-use Rattle.arena_geo.specs.Boxes.{touches, contains, grown}
+use Rattle.arena_geo.specs.Boxes.{touches, contains, box_grown_by}
 use Rattle.arena_geo.specs.Regions.{is_inside, IsRegion}
 use Rattle.entity_recs.specs.declared.bodies.TheConstants.{ITEM_MINS, ITEM_MAXS}
 use Rattle.entity_recs.specs.declared.effect.NewState.{NewState}
@@ -20,7 +20,7 @@ use Rattle.entity_recs.specs.declared.kind.Kind.TheVariants.{Player, Ammo, Gem, 
 use Rattle.entity_recs.specs.declared.rec.Rec.{Rec}
 use Rattle.entity_recs.specs.Kinds.{is_solid, is_item}
 use Rattle.entity_recs.specs.Records.{IsShapeOf, IsRecord, with_state}
-use Rattle.entity_recs.specs.Bodies.{standing, growth_of, body_of, abs_of}
+use Rattle.entity_recs.specs.Bodies.{box_at_origin, growth_of, body_of, abs_of}
 use Rattle.entity_recs.specs.Commands.{Command}
 use Rattle.entity_recs.specs.Actions.{IsCall, HasFootprint, StaysWithin, is_of_one_inside}
 use Rattle.entity_recs.proofs.Standing.{contains-grown}
@@ -151,11 +151,11 @@ shorter less more b le short = record { x = omega (arith, ints, short.x, le); y 
 item_is_short : (r : Rec) → IsRecord r → is_item r.kind ≡ true → IsShort 16384 (abs_of r)
 item_is_short r is kind = by r.kind kind is.shape
   where
-    at : (origin : Vec3) → IsShort 16384 (grown (standing origin ITEM_MINS ITEM_MAXS) (growth_of Ammo))
+    at : (origin : Vec3) → IsShort 16384 (box_grown_by (box_at_origin origin ITEM_MINS ITEM_MAXS) (growth_of Ammo))
     at origin = record { x = omega (arith, ints); y = omega (arith, ints); z = omega (arith, ints) }
 
     by : (k : Kind) → is_item k ≡ true → IsShapeOf k r.origin r.mins r.maxs
-        → IsShort 16384 (grown (body_of r) (growth_of k))
+        → IsShort 16384 (box_grown_by (body_of r) (growth_of k))
     by Player item shape = cc
     by Ammo item shape = rw (shape.low_is, shape.high_is) (at r.origin)
     by Gem item shape = rw (shape.low_is, shape.high_is) (at r.origin)
@@ -193,10 +193,10 @@ module _ (room : ℕ) (enough : 16384 ≤ room) (arena : MapView) (me : Rec) (ne
   same_abs_of : (a b : Rec) → a.origin ≡ b.origin → a.kind ≡ b.kind → a.mins ≡ b.mins → a.maxs ≡ b.maxs
       → abs_of a ≡ abs_of b
   same_abs_of a b origin kind mins maxs =
-      ap (λ (k : Kind). grown (body_of a) (growth_of k)) kind
-      ∙ ap (λ (o : Vec3). grown (standing o a.mins a.maxs) (growth_of b.kind)) origin
-      ∙ ap (λ (m : Vec3). grown (standing b.origin m a.maxs) (growth_of b.kind)) mins
-      ∙ ap (λ (m : Vec3). grown (standing b.origin b.mins m) (growth_of b.kind)) maxs
+      ap (λ (k : Kind). box_grown_by (body_of a) (growth_of k)) kind
+      ∙ ap (λ (o : Vec3). box_grown_by (box_at_origin o a.mins a.maxs) (growth_of b.kind)) origin
+      ∙ ap (λ (m : Vec3). box_grown_by (box_at_origin b.origin m a.maxs) (growth_of b.kind)) mins
+      ∙ ap (λ (m : Vec3). box_grown_by (box_at_origin b.origin b.mins m) (growth_of b.kind)) maxs
 
   walk_is_inside : (ended : Bool) → (touched arena c.frame moved near).ended ≡ ended
       → is_inside (abs_of (touched arena c.frame moved near).me) region ≡ true

@@ -7,7 +7,7 @@ use Rattle.std.proofs.lemmas.Int.{ints, to_z-of_z, fits_signed_from_abs}
 use Rattle.arena_geo.specs.declared.vec3.Vec3.{Vec3}
 use Rattle.arena_geo.specs.Vectors.{vector, IsNotNegative, IsNear}
 use Rattle.arena_geo.specs.Bounds.{Bounds, IsOrdered, IsInRange, IsBox}
-use Rattle.arena_geo.specs.Boxes.{grown}
+use Rattle.arena_geo.specs.Boxes.{box_grown_by}
 use Rattle.arena_geo.proofs.Ranges.{IsOrdered-grown}
 use Rattle.entity_recs.specs.declared.rec.Rec.{Rec}
 use Rattle.entity_recs.specs.Records.{IsRecord}
@@ -37,7 +37,7 @@ box_within far b less is = record {
 
 -- a box that grows
 pub within-grown : (far most more : ℕ) (b : Bounds) (by : Vec3) → far + most ≤ more → IsNotNegative by → IsNear most by
-    → IsBoxWithin far b → IsBoxWithin more (grown b by)
+    → IsBoxWithin far b → IsBoxWithin more (box_grown_by b by)
 within-grown far most more b by less positive near is = record {
   ordered = IsOrdered-grown b by is.ordered positive;
   lo = record {
@@ -60,7 +60,7 @@ amount_is_near x y z most x_near y_near z_near =
     record { x = omega (arith, x_near); y = omega (arith, y_near); z = omega (arith, z_near) }
 
 pub within-grown_by : (far most more : ℕ) (b : Bounds) (x y z : ℕ) → far + most ≤ more → x ≤ most → y ≤ most → z ≤ most
-    → IsBoxWithin far b → IsBoxWithin more (grown b (amount x y z))
+    → IsBoxWithin far b → IsBoxWithin more (box_grown_by b (amount x y z))
 within-grown_by far most more b x y z less x_near y_near z_near is =
     within-grown far most more b (amount x y z) less (amount_is_positive x y z) (amount_is_near x y z most x_near y_near z_near) is
 
@@ -77,10 +77,10 @@ abs_within r is =
 
 -- a box that grows so stays within the range
 pub grows_in_range : (b low : Bounds) (by : Vec3) (x y z far : ℕ) → b ≡ low → by ≡ amount x y z → x ≤ 100000
-    → y ≤ 100000 → z ≤ 100000 → far ≤ 1900000 → IsBoxWithin far low → IsInRange (grown b by)
+    → y ≤ 100000 → z ≤ 100000 → far ≤ 1900000 → IsBoxWithin far low → IsInRange (box_grown_by b by)
 grows_in_range b low by x y z far b_is by_is x_near y_near z_near less is =
     let box =
-    box_within (far + 100000) (grown low (amount x y z)) (omega arith) (within-grown_by far 100000 (far
+    box_within (far + 100000) (box_grown_by low (amount x y z)) (omega arith) (within-grown_by far 100000 (far
     + 100000) low x y z (omega arith) x_near y_near z_near is) in
     rw (b_is, by_is) box.in_range
 

@@ -3,9 +3,9 @@ use Rattle.std.proofs.Common.{◌≡◌, ℕ, ◌+◌, ◌≤◌, true, ℤ, pos
 use Rattle.std.proofs.lemmas.Int.{ints}
 use Rattle.arena_geo.specs.declared.vec3.Vec3.{Vec3}
 use Rattle.arena_geo.specs.Bounds.{Bounds}
-use Rattle.arena_geo.specs.Boxes.{overlaps_on, touches_on, contains_on, overlaps, touches, contains, grown}
+use Rattle.arena_geo.specs.Boxes.{overlaps_on, touches_on, contains_on, overlaps, touches, contains, box_grown_by}
 use Rattle.arena_geo.proofs.Containment.{three_pass, all_three}
-use Rattle.entity_recs.specs.Bodies.{standing}
+use Rattle.entity_recs.specs.Bodies.{box_at_origin}
 use Rattle.arena_outcomes.proofs.Lawful.Growing.{amount}
 
 -- ---- on one axis
@@ -72,7 +72,7 @@ pub record IsShort (by : ℕ) (b : Bounds) : Type 0 where
 
 -- a short box that touches one lies in it with room around it
 pub contains-touched : (a r : Bounds) (by : ℕ) → IsShort by r → touches r a ≡ true
-    → contains (grown a (amount by by by)) r ≡ true
+    → contains (box_grown_by a (amount by by by)) r ≡ true
 contains-touched a r by short touch =
     let t = three_pass _ _ _ touch in
     all_three (contains_on-touched a.lo.x a.hi.x r.lo.x r.hi.x by short.x t.x) (contains_on-touched a.lo.y a.hi.y r.lo.y r.hi.y by short.y t.y)
@@ -82,14 +82,14 @@ contains-touched a r by short touch =
 pub contains-moved : (from to mins maxs g : Vec3) (far_x far_y far_z x y z : ℕ) → unsigned_abs (to.x -ℤ from.x) ≤ far_x
     → unsigned_abs (to.y -ℤ from.y) ≤ far_y → unsigned_abs (to.z -ℤ from.z) ≤ far_z
     → far_x ≤ x → far_y ≤ y → far_z ≤ z
-    → contains (grown (grown (standing from mins maxs) g) (amount x y z)) (grown (standing to mins maxs) g) ≡ true
+    → contains (box_grown_by (box_grown_by (box_at_origin from mins maxs) g) (amount x y z)) (box_grown_by (box_at_origin to mins maxs) g) ≡ true
 contains-moved from to mins maxs g far_x far_y far_z x y z near_x near_y near_z less_x less_y less_z =
     all_three (contains_on-moved from.x to.x mins.x maxs.x g.x far_x x near_x less_x) (contains_on-moved from.y to.y mins.y maxs.y g.y far_y y near_y less_y)
     (contains_on-moved from.z to.z mins.z maxs.z g.z far_z z near_z less_z)
 
 -- a box that grows more contains one that grows less
 pub contains-larger : (b : Bounds) (x y z x' y' z' : ℕ) → x ≤ x' → y ≤ y' → z ≤ z'
-    → contains (grown b (amount x' y' z')) (grown b (amount x y z)) ≡ true
+    → contains (box_grown_by b (amount x' y' z')) (box_grown_by b (amount x y z)) ≡ true
 contains-larger b x y z x' y' z' less_x less_y less_z =
     all_three (contains_on-larger b.lo.x b.hi.x x x' less_x) (contains_on-larger b.lo.y b.hi.y y y' less_y) (contains_on-larger b.lo.z b.hi.z z z' less_z)
 
@@ -99,6 +99,6 @@ contains_on-twice lo hi a b c less = grind (arith, ints)
 
 -- and so a box
 pub contains-twice : (box : Bounds) (x y z by far_x far_y far_z : ℕ) → x + by ≤ far_x → y + by ≤ far_y → z + by ≤ far_z
-    → contains (grown box (amount far_x far_y far_z)) (grown (grown box (amount x y z)) (amount by by by)) ≡ true
+    → contains (box_grown_by box (amount far_x far_y far_z)) (box_grown_by (box_grown_by box (amount x y z)) (amount by by by)) ≡ true
 contains-twice box x y z by far_x far_y far_z less_x less_y less_z =
     all_three (contains_on-twice box.lo.x box.hi.x x by far_x less_x) (contains_on-twice box.lo.y box.hi.y y by far_y less_y) (contains_on-twice box.lo.z box.hi.z z by far_z less_z)

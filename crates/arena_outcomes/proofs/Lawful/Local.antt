@@ -12,7 +12,7 @@ use Rattle.entity_recs.specs.declared.rec.Rec.{Rec}
 use Rattle.entity_recs.specs.Kinds.{is_solid}
 use Rattle.entity_recs.specs.Bodies.{player_body, body_of, abs_of, is_touched}
 use Rattle.entity_recs.specs.Commands.{Command}
-use Rattle.entity_recs.specs.Actions.{IsCall, HasLocality, touching}
+use Rattle.entity_recs.specs.Actions.{IsCall, HasLocality, records_touching}
 use Rattle.entity_recs.proofs.Standing.{abs_contains_body}
 use Rattle.entity_recs.proofs.Ids.{player_shape}
 use Rattle.player_move.specs.declared.moved.Moved.{Moved}
@@ -22,7 +22,7 @@ use Rattle.arena_map.specs.Maps.{MapView, IsMap, solids_of}
 use Rattle.trigger_rules.specs.Touching.{bodies_of_solids, solids_among, touched}
 use Rattle.trigger_rules.specs.Laws.{HaveSameWays}
 use Rattle.trigger_rules.proofs.Taken.{only_touched}
-use Rattle.arena_outcomes.specs.Outcomes.{asked, after_move, moved_among, effect_of, outcome_in}
+use Rattle.arena_outcomes.specs.Outcomes.{intent_of_command, after_move, moved_among, effect_of, outcome_in}
 use Rattle.arena_outcomes.specs.Regions.{reach_of, first_box, landing_at, region_with}
 use Rattle.arena_outcomes.specs.Takes.{takes}
 use Rattle.arena_outcomes.proofs.Lawful.Inside.{contains-through, touches-wider, touches-around}
@@ -122,7 +122,7 @@ moved_kept map me c keep near short kept =
     filter-append test (solids_of map) (bodies_of_solids near)
     ∙ ap (λ (l : List Bounds). filter test (solids_of map) ++ l) (sym (bodies_kept test keep near kept))
     ∙ sym (filter-append test (solids_of map) (bodies_of_solids (filter keep near))) in
-    ap (λ (m : Moved). after_move me m c.seq) (move_looks_within me (asked c) all some short same)
+    ap (λ (m : Moved). after_move me m c.seq) (move_looks_within me (intent_of_command c) all some short same)
 
 -- ---- a move
 
@@ -173,7 +173,7 @@ module _ (room : ℕ) (arena : MapView) (me : Rec) (near : List Rec) (c : Comman
       only_touched arena c.frame moved near (filter keep near) (sym (filter_kept (is_touched (abs_of moved)) keep near touched_touches)) same_ways
       ∙ ap (λ (r : Rec). touched arena c.frame r (filter keep near)) (moved_kept arena me c keep near short looked_touches)
 
-  pub local : outcome_in arena me near c ≡ outcome_in arena me (touching (region_with room arena me c) near) c
+  pub local : outcome_in arena me near c ≡ outcome_in arena me (records_touching (region_with room arena me c) near) c
   unfolding outcome_in
   local = ap effect_of local_walk
 

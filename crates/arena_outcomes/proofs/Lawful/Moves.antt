@@ -9,7 +9,7 @@ use Rattle.entity_recs.specs.declared.bodies.TheConstants.{PLAYER_MINS, PLAYER_M
 use Rattle.entity_recs.specs.declared.kind.Kind.TheVariants.{Teleporter}
 use Rattle.entity_recs.specs.declared.rec.Rec.{Rec}
 use Rattle.entity_recs.specs.Records.{HasCorners}
-use Rattle.entity_recs.specs.Bodies.{standing, body_of}
+use Rattle.entity_recs.specs.Bodies.{box_at_origin, body_of}
 use Rattle.entity_recs.specs.Commands.{Command}
 use Rattle.entity_recs.proofs.Ids.{player_shape}
 use Rattle.player_move.proofs.Ending.{move_ends_free}
@@ -19,7 +19,7 @@ use Rattle.trigger_rules.specs.Touching.{touched_by, solids_among, Walk, first_w
 use Rattle.trigger_rules.proofs.Taken.{stay_themselves, leaps_free, only_leaps, were_there, ids_rise}
 use Rattle.trigger_rules.proofs.Leaping.{leaps_from_teleporters}
 use Rattle.trigger_rules.proofs.Bounds.{stay_on, states_apart}
-use Rattle.arena_outcomes.specs.Outcomes.{asked, after_move, effect_of, moved_among, outcome_in}
+use Rattle.arena_outcomes.specs.Outcomes.{intent_of_command, after_move, effect_of, moved_among, outcome_in}
 use Rattle.arena_outcomes.specs.Laws.{PlayersStayOnMaps, IsPlayerAfter, MovesKeepWhoMoves, IsMoveAlone, MovesAreMade, PlayersAreWhereTheyMoved, TouchingFollowsMoves, PlayersStayFree, MovesTakeWhatIsThere, NewStatesAreApart, RepliedIdsRise, RepliesHaveTheOrigin}
 use Rattle.arena_outcomes.proofs.Lawful.Players.{moved_stays_on}
 
@@ -53,13 +53,13 @@ moved_is_free : (map : MapView) (me : Rec) (near : List Rec) (c : Command)
     → is_blocked (body_of me) (solids_among map near) ≡ false
     → is_blocked (body_of (moved_among map me near c)) (solids_among map near) ≡ false
 unfolding moved_among
-moved_is_free map me near c free = move_ends_free me (asked c) (solids_among map near) free
+moved_is_free map me near c free = move_ends_free me (intent_of_command c) (solids_among map near) free
 
 -- a body in place in the same shape is the same body
 pub same_body : (a b : Rec) → b.origin ≡ a.origin → b.mins ≡ a.mins → b.maxs ≡ a.maxs → body_of b ≡ body_of a
 same_body a b origin mins maxs =
-    ap (λ (o : Vec3). standing o b.mins b.maxs) origin ∙ ap (λ (m : Vec3). standing a.origin m b.maxs) mins
-    ∙ ap (λ (m : Vec3). standing a.origin a.mins m) maxs
+    ap (λ (o : Vec3). box_at_origin o b.mins b.maxs) origin ∙ ap (λ (m : Vec3). box_at_origin a.origin m b.maxs) mins
+    ∙ ap (λ (m : Vec3). box_at_origin a.origin a.mins m) maxs
 
 -- a player that touches things is free where it was free, and where a teleporter moves it
 touches_free : (map : MapView) (frame : ℕ) (me : Rec) (near : List Rec)
@@ -108,7 +108,7 @@ none_touched map frame me near none = ap (fold (after_trigger map (solids_among 
 pub are_made : MovesAreMade
 unfolding outcome_in moved_among
 are_made map me near c none =
-    let moved = move_of me (asked c) (solids_among map near) in
+    let moved = move_of me (intent_of_command c) (solids_among map near) in
     let there = after_move me moved c.seq in
     subst (λ (w : Walk). IsMoveAlone me moved (effect_of w)) (sym (none_touched map c.frame there near none))
     (record { origin = refl; vel = refl; flags = refl; ammo = refl; carry = refl; score = refl; states = refl; got = refl })
@@ -132,7 +132,7 @@ isnt_led_away map frame me near none = false_from_ne_true (touched map frame me 
 pub are_where_they_moved : PlayersAreWhereTheyMoved
 unfolding outcome_in moved_among
 are_where_they_moved map me near c none =
-    let there = after_move me (move_of me (asked c) (solids_among map near)) c.seq in
+    let there = after_move me (move_of me (intent_of_command c) (solids_among map near)) c.seq in
     let place = only_leaps map c.frame there near (isnt_led_away map c.frame there near none) in
     record { origin = place.origin; vel = place.vel; flags = place.flags }
 

@@ -12,7 +12,7 @@ use Rattle.entity_recs.specs.declared.kind.Kind.TheVariants.{Player}
 use Rattle.entity_recs.specs.declared.bodies.TheConstants.{PLAYER_MINS}
 use Rattle.entity_recs.specs.declared.rec.Rec.{Rec}
 use Rattle.entity_recs.specs.Records.{IsRecord, IsShapeOf}
-use Rattle.entity_recs.specs.Bodies.{standing, player_body}
+use Rattle.entity_recs.specs.Bodies.{box_at_origin, player_body}
 use Rattle.entity_recs.specs.Commands.{Command}
 use Rattle.entity_recs.proofs.Standing.{records_have_boxes}
 use Rattle.entity_recs.proofs.Ids.{player_shape}
@@ -22,7 +22,7 @@ use Rattle.player_move.proofs.Slows.{move_stays_slow}
 use Rattle.arena_map.specs.Maps.{MapView, IsMap}
 use Rattle.trigger_rules.specs.Touching.{bodies_of_solids, solids_among}
 use Rattle.trigger_rules.specs.Laws.{IsPlayerOn}
-use Rattle.arena_outcomes.specs.Outcomes.{asked, flags_of, moved_among}
+use Rattle.arena_outcomes.specs.Outcomes.{intent_of_command, flags_of, moved_among}
 use Rattle.arena_outcomes.specs.Regions.{elsewhere}
 
 near_on : (lo hi l h : ℤ) → unsigned_abs lo ≤ 1048576 → unsigned_abs hi ≤ 1048576 → contains_on lo hi l h ≡ true
@@ -45,10 +45,10 @@ near_inside arena origin lo hi inside =
     }
 
 near_of_shape : (arena : Bounds) (at mins maxs : Vec3) → IsNear 1048576 arena.lo → IsNear 1048576 arena.hi
-    → IsShapeOf Player at mins maxs → contains arena (standing at mins maxs) ≡ true → IsNear 1048576 at
+    → IsShapeOf Player at mins maxs → contains arena (box_at_origin at mins maxs) ≡ true → IsNear 1048576 at
 near_of_shape arena at mins maxs lo hi shape inside =
-    let P : Vec3 → Type 0 = λ low. contains arena (standing at low maxs) ≡ true in
-    let Q : Vec3 → Type 0 = λ high. contains arena (standing at PLAYER_MINS high) ≡ true in
+    let P : Vec3 → Type 0 = λ low. contains arena (box_at_origin at low maxs) ≡ true in
+    let Q : Vec3 → Type 0 = λ high. contains arena (box_at_origin at PLAYER_MINS high) ≡ true in
     near_inside arena at lo hi (subst Q shape.high_is (subst P shape.low_is inside))
 
 flags_are_low : (ground : Bool) → flags_of ground ≤ 3
@@ -67,10 +67,10 @@ pub moved_stays_on : (map : MapView) (me : Rec) (near : List Rec) (c : Command) 
 unfolding moved_among
 moved_stays_on map me near c is_map is =
     let solids = solids_among map near in
-    let moved = move_of me (asked c) solids in
+    let moved = move_of me (intent_of_command c) solids in
     let shape = player_shape me is.is_record is.kind in
-    let inside : contains map.bounds (standing moved.origin me.mins me.maxs) ≡ true =
-    move_stays_inside map.bounds me (asked c) solids (records_have_boxes me is.is_record).body.ordered (solids_have_walls map near) is.inside in
+    let inside : contains map.bounds (box_at_origin moved.origin me.mins me.maxs) ≡ true =
+    move_stays_inside map.bounds me (intent_of_command c) solids (records_have_boxes me is.is_record).body.ordered (solids_have_walls map near) is.inside in
     let there : IsShapeOf Player moved.origin me.mins me.maxs =
     record { low_is = shape.low_is; high_is = shape.high_is } in
     record {
@@ -79,7 +79,7 @@ moved_stays_on map me near c is_map is =
         id = is.is_record.id;
         origin = near_of_shape map.bounds moved.origin me.mins me.maxs is_map.lo is_map.hi there inside;
         shape = subst (λ (k : Kind). IsShapeOf k moved.origin me.mins me.maxs) (sym is.kind) there;
-        vel = move_stays_slow me (asked c) solids;
+        vel = move_stays_slow me (intent_of_command c) solids;
         flags = flags_are_low moved.ground;
         ammo = is.is_record.ammo;
         carry = is.is_record.carry;

@@ -9,7 +9,7 @@ use Rattle.std.proofs.lemmas.Bool.{or_right, and_parts}
 use Rattle.arena_geo.specs.declared.vec3.Vec3.{Vec3}
 use Rattle.arena_geo.specs.Vectors.{IsNotNegative}
 use Rattle.arena_geo.specs.Bounds.{Bounds}
-use Rattle.arena_geo.specs.Boxes.{touches, contains_on, contains, grown}
+use Rattle.arena_geo.specs.Boxes.{touches, contains_on, contains, box_grown_by}
 use Rattle.arena_geo.specs.Regions.{touches_region, is_inside}
 use Rattle.arena_geo.proofs.Containment.{all_three}
 use Rattle.entity_recs.specs.declared.bodies.TheConstants.{PLAYER_MINS, PLAYER_MAXS}
@@ -18,7 +18,7 @@ use Rattle.entity_recs.specs.declared.kind.Kind.TheVariants.{Teleporter}
 use Rattle.entity_recs.specs.declared.rec.Rec.{Rec}
 use Rattle.entity_recs.specs.Records.{HasCorners}
 use Rattle.entity_recs.specs.Kinds.{is_solid}
-use Rattle.entity_recs.specs.Bodies.{standing, player_body, body_of, growth_of, abs_of, is_touched}
+use Rattle.entity_recs.specs.Bodies.{box_at_origin, player_body, body_of, growth_of, abs_of, is_touched}
 use Rattle.entity_recs.specs.Commands.{Command}
 use Rattle.entity_recs.proofs.Standing.{growth_is_small, contains-grown, abs_contains_body}
 use Rattle.player_move.specs.Moves.{move_of}
@@ -27,7 +27,7 @@ use Rattle.player_move.proofs.WholeMoves.{move_reach}
 use Rattle.arena_map.specs.Maps.{MapView, IsMap, entities_of, dest_of}
 use Rattle.arena_map.specs.Validity.{IsSameThing}
 use Rattle.trigger_rules.specs.Touching.{touched_by, solids_among}
-use Rattle.arena_outcomes.specs.Outcomes.{asked, moved_among}
+use Rattle.arena_outcomes.specs.Outcomes.{intent_of_command, moved_among}
 use Rattle.arena_outcomes.specs.Regions.{reach_of, first_box, room_of, elsewhere, landing_at, landing_of, region_with}
 use Rattle.arena_outcomes.specs.declared.sizes.TheConstants.{ROOM}
 use Rattle.arena_outcomes.specs.Takes.{thing_with, takes}
@@ -68,8 +68,8 @@ pub reach_contains_moved : (map : MapView) (me : Rec) (near : List Rec) (c : Com
 unfolding moved_among
 reach_contains_moved map me near c short =
     let solids = solids_among map near in
-    let to = (move_of me (asked c) solids).origin in
-    let far = move_reach me (asked c) solids short in
+    let to = (move_of me (intent_of_command c) solids).origin in
+    let far = move_reach me (intent_of_command c) solids short in
     let x = reach_on me.vel.x c.ms in
     let y = reach_on me.vel.y c.ms in
     let z = reach_on me.vel.z c.ms in
@@ -100,10 +100,10 @@ pub record IsWay (map : MapView) (moved : Rec) (near : List Rec) (r : Rec) (dest
 
 same_abs : (thing r : Rec) → IsSameThing thing r → abs_of r ≡ abs_of thing
 same_abs thing r same =
-    ap (λ (k : Kind). grown (body_of r) (growth_of k)) same.kind
-    ∙ ap (λ (o : Vec3). grown (standing o r.mins r.maxs) (growth_of thing.kind)) same.origin
-    ∙ ap (λ (m : Vec3). grown (standing thing.origin m r.maxs) (growth_of thing.kind)) same.mins
-    ∙ ap (λ (m : Vec3). grown (standing thing.origin thing.mins m) (growth_of thing.kind)) same.maxs
+    ap (λ (k : Kind). box_grown_by (body_of r) (growth_of k)) same.kind
+    ∙ ap (λ (o : Vec3). box_grown_by (box_at_origin o r.mins r.maxs) (growth_of thing.kind)) same.origin
+    ∙ ap (λ (m : Vec3). box_grown_by (box_at_origin thing.origin m r.maxs) (growth_of thing.kind)) same.mins
+    ∙ ap (λ (m : Vec3). box_grown_by (box_at_origin thing.origin thing.mins m) (growth_of thing.kind)) same.maxs
 
 -- its thing has a landing there
 way_lands : (map : MapView) (me : Rec) (near : List Rec) (c : Command) (r : Rec) (dest : Vec3) → IsMap map → c.ms ≤ 50
@@ -164,5 +164,5 @@ pub landing_contains_body : (me : Rec) (dest : Vec3) → HasCorners PLAYER_MINS 
 landing_contains_body me dest shape =
     let all =
     contains-through (landing_at me dest) (abs_of (elsewhere me dest)) (body_of (elsewhere me dest)) (landing_contains_abs me dest) (abs_contains_body (elsewhere me dest)) in
-    subst (λ (m : Vec3). contains (landing_at me dest) (standing dest PLAYER_MINS m) ≡ true) shape.high_is
-    (subst (λ (m : Vec3). contains (landing_at me dest) (standing dest m me.maxs) ≡ true) shape.low_is all)
+    subst (λ (m : Vec3). contains (landing_at me dest) (box_at_origin dest PLAYER_MINS m) ≡ true) shape.high_is
+    (subst (λ (m : Vec3). contains (landing_at me dest) (box_at_origin dest m me.maxs) ≡ true) shape.low_is all)

@@ -10,7 +10,7 @@ use Rattle.std.proofs.lemmas.List.Elements.{All-contains, All-nil, All-from_recu
 use Rattle.arena_geo.specs.declared.vec3.Vec3.{Vec3}
 use Rattle.arena_geo.specs.Vectors.{vector}
 use Rattle.arena_geo.specs.Bounds.{Bounds, bounds}
-use Rattle.arena_geo.specs.Boxes.{overlaps, contains_on, touches, contains, grown}
+use Rattle.arena_geo.specs.Boxes.{overlaps, contains_on, touches, contains, box_grown_by}
 use Rattle.arena_geo.specs.Regions.{touches_region, is_inside}
 use Rattle.arena_geo.proofs.Containment.{three_pass, all_three}
 use Rattle.entity_recs.specs.declared.bodies.TheConstants.{PLAYER_MINS, PLAYER_MAXS}
@@ -20,9 +20,9 @@ use Rattle.entity_recs.specs.declared.kind.Kind.TheVariants.{Player, Ammo, Gem, 
 use Rattle.entity_recs.specs.declared.rec.Rec.{Rec}
 use Rattle.entity_recs.specs.Kinds.{is_solid, is_item}
 use Rattle.entity_recs.specs.Records.{IsIdOf, IsRecord, with_state}
-use Rattle.entity_recs.specs.Bodies.{standing, growth_of, body_of, abs_of}
+use Rattle.entity_recs.specs.Bodies.{box_at_origin, growth_of, body_of, abs_of}
 use Rattle.entity_recs.specs.Commands.{Command}
-use Rattle.entity_recs.specs.Actions.{IsCall, HasValidity, HasLocality, HasFootprint, StaysWithin, is_of_one_inside, touching}
+use Rattle.entity_recs.specs.Actions.{IsCall, HasValidity, HasLocality, HasFootprint, StaysWithin, is_of_one_inside, records_touching}
 use Rattle.entity_recs.proofs.Standing.{abs_contains_body}
 use Rattle.entity_recs.proofs.Ids.{player_shape}
 use Rattle.box_trace.specs.Steps.{step_count, body_at}
@@ -32,12 +32,12 @@ use Rattle.trigger_rules.specs.Laws.{IsTaken, IsPlayerOn}
 use Rattle.trigger_rules.proofs.Taken.{only_leaps}
 use Rattle.trigger_rules.proofs.Leaping.{leaps_from_teleporters}
 use Rattle.shot_rules.specs.Targets.{is_set, shot_box, way_along, is_in_way}
-use Rattle.shot_rules.specs.Shots.{is_down, is_fired, spent, state_after_hit, after_meeting, after_shot}
+use Rattle.shot_rules.specs.Shots.{is_down, is_fired, walk_after_shot, state_after_hit, after_meeting, after_shot}
 use Rattle.shot_rules.specs.Laws.{IsShooterAfter, IsHit, IsShot, Misses, Hits}
 use Rattle.shot_rules.proofs.Ways.{stays_near}
 use Rattle.shot_rules.proofs.Hits.{unfired_is, fired_is, firing, stay_shooters, are_in_the_way, only_way_matters}
 use Rattle.arena_outcomes.specs.declared.sizes.TheConstants.{SHOT_ROOM}
-use Rattle.arena_outcomes.specs.Outcomes.{moved_among, effect_of, outcome_in, risen, lying, shooting_in, shot_outcome}
+use Rattle.arena_outcomes.specs.Outcomes.{moved_among, effect_of, outcome_in, player_after_rising, player_while_down, shooting_in, shot_outcome}
 use Rattle.arena_outcomes.specs.Regions.{reach_of, first_box, room_of, region_with, shot_region}
 use Rattle.arena_outcomes.specs.Takes.{takes}
 use Rattle.arena_outcomes.proofs.Lawful.Growing.{amount}
@@ -70,7 +70,7 @@ on_in_state map me state is = record {
 }
 
 -- and so is one that is down after a command
-pub lying_on : (map : MapView) (me : Rec) (seq : ℕ) → IsPlayerOn map me → IsPlayerOn map (lying me seq)
+pub lying_on : (map : MapView) (me : Rec) (seq : ℕ) → IsPlayerOn map me → IsPlayerOn map (player_while_down me seq)
 lying_on map me seq is = record {
   kind = is.kind;
   is_record = record {
@@ -155,8 +155,8 @@ shot_on_z : (lo hi o a b : ℤ) → contains_on lo hi a b ≡ true → a ≤ℤ 
 shot_on_z lo hi o a b inside low high = grind (arith, ints)
 
 -- where a player's absolute box is within the reach, all that its shot may come to is within 65,536 of the reach
-around_player : (reach : Bounds) (o : Vec3) → contains reach (grown (standing o PLAYER_MINS PLAYER_MAXS) (growth_of Player)) ≡ true
-    → contains (grown reach (room_of far)) (grown (bounds o o) (vector (pos 65792) (pos 65792) (pos 256))) ≡ true
+around_player : (reach : Bounds) (o : Vec3) → contains reach (box_grown_by (box_at_origin o PLAYER_MINS PLAYER_MAXS) (growth_of Player)) ≡ true
+    → contains (box_grown_by reach (room_of far)) (box_grown_by (bounds o o) (vector (pos 65792) (pos 65792) (pos 256))) ≡ true
 around_player reach o inside =
     let t = three_pass _ _ _ inside in
     all_three (shot_on reach.lo.x reach.hi.x o.x _ _ t.x (omega (arith, ints)) (omega (arith, ints)))
@@ -165,14 +165,14 @@ around_player reach o inside =
 
 -- the absolute box of a player is that of its origin
 abs_of_player : (r : Rec) → r.kind ≡ Player → r.mins ≡ PLAYER_MINS → r.maxs ≡ PLAYER_MAXS
-    → abs_of r ≡ grown (standing r.origin PLAYER_MINS PLAYER_MAXS) (growth_of Player)
+    → abs_of r ≡ box_grown_by (box_at_origin r.origin PLAYER_MINS PLAYER_MAXS) (growth_of Player)
 abs_of_player r kind mins maxs =
-    ap (λ (k : Kind). grown (body_of r) (growth_of k)) kind
-    ∙ ap (λ (m : Vec3). grown (standing r.origin m r.maxs) (growth_of Player)) mins
-    ∙ ap (λ (m : Vec3). grown (standing r.origin PLAYER_MINS m) (growth_of Player)) maxs
+    ap (λ (k : Kind). box_grown_by (body_of r) (growth_of k)) kind
+    ∙ ap (λ (m : Vec3). box_grown_by (box_at_origin r.origin m r.maxs) (growth_of Player)) mins
+    ∙ ap (λ (m : Vec3). box_grown_by (box_at_origin r.origin PLAYER_MINS m) (growth_of Player)) maxs
 
 -- no player's absolute box is longer than the room
-short_at : (o : Vec3) → IsShort 16384 (grown (standing o PLAYER_MINS PLAYER_MAXS) (growth_of Player))
+short_at : (o : Vec3) → IsShort 16384 (box_grown_by (box_at_origin o PLAYER_MINS PLAYER_MAXS) (growth_of Player))
 short_at o = record { x = omega (arith, ints); y = omega (arith, ints); z = omega (arith, ints) }
 
 player_is_short : (r : Rec) → IsRecord r → r.kind ≡ Player → IsShort 16384 (abs_of r)
@@ -215,7 +215,7 @@ module _ (arena : MapView) (me : Rec) (near : List Rec) (c : Command) (is_map : 
   way = way_along c.wish_x c.wish_y
 
   abbrev beyond : Bounds
-  beyond = grown (reach_of me c.ms) (room_of far)
+  beyond = box_grown_by (reach_of me c.ms) (room_of far)
 
   short : c.ms ≤ 50
   short = call.player.command.most_ms
@@ -226,10 +226,10 @@ module _ (arena : MapView) (me : Rec) (near : List Rec) (c : Command) (is_map : 
       let f = firing c walk fired in
       let on = moved_stays_on arena me near c is_map (has_player_on arena me c is_map call.player) in
       let shape = player_shape moved on.is_record on.kind in
-      let inside : contains (reach_of me c.ms) (grown (standing moved.origin PLAYER_MINS PLAYER_MAXS) (growth_of Player)) ≡ true =
+      let inside : contains (reach_of me c.ms) (box_grown_by (box_at_origin moved.origin PLAYER_MINS PLAYER_MAXS) (growth_of Player)) ≡ true =
       subst (λ (b : Bounds). contains (reach_of me c.ms) b ≡ true) (abs_of_player moved on.kind shape.low_is shape.high_is) (reach_contains_moved arena me near c short) in
       let there : contains beyond (body_at (shot_box moved.origin) way k) ≡ true =
-      contains-through beyond (grown (bounds moved.origin moved.origin) (vector (pos 65792) (pos 65792) (pos 256))) (body_at (shot_box moved.origin) way k)
+      contains-through beyond (box_grown_by (bounds moved.origin moved.origin) (vector (pos 65792) (pos 65792) (pos 256))) (body_at (shot_box moved.origin) way k)
       (around_player (reach_of me c.ms) moved.origin inside) (stays_near moved.origin c.wish_x c.wish_y k f.aim within) in
       subst (λ (o : Vec3). contains beyond (body_at (shot_box o) way k) ≡ true) (sym (stays_in_place arena c.frame moved near f.stayed)) there
 
@@ -270,10 +270,10 @@ module _ (arena : MapView) (me : Rec) (near : List Rec) (c : Command) (is_map : 
           ∙ sym (fired_is fixed (filter keep near) c walk fired)
         where
           after_meeting_of : Option Rec → Walk
-          after_meeting_of o = after_meeting c.frame (spent walk) o
+          after_meeting_of o = after_meeting c.frame (walk_after_shot walk) o
       by false unfired = unfired_is (solids_of arena) near c walk unfired ∙ sym (unfired_is (solids_of arena) (filter keep near) c walk unfired)
 
-  pub local_shooting : shooting_in arena me near c ≡ shooting_in arena me (touching (region_with SHOT_ROOM arena me c) near) c
+  pub local_shooting : shooting_in arena me near c ≡ shooting_in arena me (records_touching (region_with SHOT_ROOM arena me c) near) c
   unfolding keep
   local_shooting =
       ap effect_of kept_shot
@@ -287,7 +287,7 @@ module _ (arena : MapView) (me : Rec) (near : List Rec) (c : Command) (is_map : 
       let is = taken_is_record arena r is_map (All-contains (λ r. takes arena r ≡ true) near r call.others hit.listed) in
       let touch = in_way_touches fired hit.step hit.within r hit.reached in
       inside_first SHOT_ROOM arena me c (abs_of r)
-      (contains-through (first_box SHOT_ROOM me c.ms) (grown beyond (amount 16384 16384 16384)) (abs_of r)
+      (contains-through (first_box SHOT_ROOM me c.ms) (box_grown_by beyond (amount 16384 16384 16384)) (abs_of r)
       (contains-twice (reach_of me c.ms) far far far 16384 81920 81920 81920 (omega arith) (omega arith) (omega arith))
       (contains-touched beyond (abs_of r) 16384 (player_is_short r is hit.player) touch))
 
@@ -391,22 +391,22 @@ shots_valid map is_map = record {
 }
   where
     by : (me : Rec) (near : List Rec) (c : Command) → IsCall (takes map) me near c → (t : Bool)
-        → takes map (cond t (effect_of (first_walk (lying me c.seq))) (shooting_in map (risen me) near c)).me ≡ true
+        → takes map (cond t (effect_of (first_walk (player_while_down me c.seq))) (shooting_in map (player_after_rising me) near c)).me ≡ true
     by me near c call true =
-        player_is_taken map (lying me c.seq) (lying_on map me c.seq (has_player_on map me c is_map call.player)) (omega (arith, call.player.command.seq))
-    by me near c call false = shooting_is_taken map (risen me) near c is_map (call_in_state map me (state_risen me) near c call)
+        player_is_taken map (player_while_down me c.seq) (lying_on map me c.seq (has_player_on map me c is_map call.player)) (omega (arith, call.player.command.seq))
+    by me near c call false = shooting_is_taken map (player_after_rising me) near c is_map (call_in_state map me (state_risen me) near c call)
 
 pub shots_local : (map : MapView) → IsMap map → HasLocality (takes map) (shot_region map) (shot_outcome map)
 unfolding shot_outcome
 shots_local map is_map = record { near = λ me near c call. by me near c call (is_down me c.frame) }
   where
     by : (me : Rec) (near : List Rec) (c : Command) → IsCall (takes map) me near c → (t : Bool)
-        → cond t (effect_of (first_walk (lying me c.seq))) (shooting_in map (risen me) near c)
-        ≡ cond t (effect_of (first_walk (lying me c.seq))) (shooting_in map (risen me) (touching (shot_region map me c) near) c)
+        → cond t (effect_of (first_walk (player_while_down me c.seq))) (shooting_in map (player_after_rising me) near c)
+        ≡ cond t (effect_of (first_walk (player_while_down me c.seq))) (shooting_in map (player_after_rising me) (records_touching (shot_region map me c) near) c)
     by me near c call true = refl
     by me near c call false =
-        local_shooting map (risen me) near c is_map (call_in_state map me (state_risen me) near c call)
-        ∙ ap (λ (region : List Bounds). shooting_in map (risen me) (touching region near) c) (any_state SHOT_ROOM map me (state_risen me) c)
+        local_shooting map (player_after_rising me) near c is_map (call_in_state map me (state_risen me) near c call)
+        ∙ ap (λ (region : List Bounds). shooting_in map (player_after_rising me) (records_touching region near) c) (any_state SHOT_ROOM map me (state_risen me) c)
 
 pub shots_footprint : (map : MapView) → IsMap map → HasFootprint (takes map) (shot_region map) (shot_outcome map)
 unfolding shot_outcome outcome_in IsDistinct
@@ -417,7 +417,7 @@ shots_footprint map is_map = record {
 }
   where
     by : (me : Rec) (near : List Rec) (c : Command) → IsCall (takes map) me near c → (t : Bool)
-        → StaysWithin (shot_region map me c) me near (cond t (effect_of (first_walk (lying me c.seq))) (shooting_in map (risen me) near c))
+        → StaysWithin (shot_region map me c) me near (cond t (effect_of (first_walk (player_while_down me c.seq))) (shooting_in map (player_after_rising me) near c))
     by me near c call true =
         let here = (within SHOT_ROOM (omega arith) map me near c is_map call).before in
         record {
@@ -432,8 +432,8 @@ shots_footprint map is_map = record {
         }
     by me near c call false =
         let stays =
-        subst (λ (region : List Bounds). StaysWithin region (risen me) near (shooting_in map (risen me) near c)) (any_state SHOT_ROOM map me (state_risen me) c)
-        (within_shooting map (risen me) near c is_map (call_in_state map me (state_risen me) near c call)) in
+        subst (λ (region : List Bounds). StaysWithin region (player_after_rising me) near (shooting_in map (player_after_rising me) near c)) (any_state SHOT_ROOM map me (state_risen me) c)
+        (within_shooting map (player_after_rising me) near c is_map (call_in_state map me (state_risen me) near c call)) in
         record {
           before = stays.before;
           after = stays.after;

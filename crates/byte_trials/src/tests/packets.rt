@@ -1,5 +1,5 @@
 use packet_read::{
-    BlockList, CmdBlock, MovePacket, Packet, PacketBytes, PacketFault, StepsPacket, read_packet,
+    BlockList, CmdBlock, MovePacket, Packet, PacketBytes, PacketFault, MovesPacket, read_packet,
     write_packet,
 };
 
@@ -64,7 +64,7 @@ const ROWS: [(&[u8], Result<Packet, PacketFault>); 27] = [
     (&[1, 3], Ok(Packet::Leave)),
     (
         &[1, 2, 0xbb, 0x29, 0xef, 0xce, 0x32, 0, 0, 0x34, 0, 0],
-        Ok(Packet::Step(MovePacket {
+        Ok(Packet::Move(MovePacket {
             seq: 3471780283,
             ms: 50,
             wish_x: 0,
@@ -76,7 +76,7 @@ const ROWS: [(&[u8], Result<Packet, PacketFault>); 27] = [
         &[
             1, 2, 0xe1, 0x32, 0xb1, 0x2b, 0x32, 0x0e, 0x7f, 0xeb, 0xfe, 0,
         ],
-        Ok(Packet::Step(MovePacket {
+        Ok(Packet::Move(MovePacket {
             seq: 733033185,
             ms: 50,
             wish_x: 32526,
@@ -86,7 +86,7 @@ const ROWS: [(&[u8], Result<Packet, PacketFault>); 27] = [
     ),
     (
         &[1, 2, 0x54, 0x64, 0x53, 0x46, 0x0e, 0, 0xff, 0xc2, 0x98, 1],
-        Ok(Packet::Step(MovePacket {
+        Ok(Packet::Move(MovePacket {
             seq: 1179870292,
             ms: 14,
             wish_x: -256,
@@ -96,7 +96,7 @@ const ROWS: [(&[u8], Result<Packet, PacketFault>); 27] = [
     ),
     (
         &[1, 2, 0xbc, 0x81, 0x4b, 0x39, 0x14, 0x71, 0, 0x51, 0xb9, 1],
-        Ok(Packet::Step(MovePacket {
+        Ok(Packet::Move(MovePacket {
             seq: 961249724,
             ms: 20,
             wish_x: 113,
@@ -108,7 +108,7 @@ const ROWS: [(&[u8], Result<Packet, PacketFault>); 27] = [
         &[
             1, 2, 0x22, 0x7d, 0x37, 0xbb, 0x26, 0xac, 0xff, 0xa8, 0xff, 1,
         ],
-        Ok(Packet::Step(MovePacket {
+        Ok(Packet::Move(MovePacket {
             seq: 3140975906,
             ms: 38,
             wish_x: -84,
@@ -207,7 +207,7 @@ fn refused_for(len: usize, count: u8) -> Option<PacketFault> {
 }
 
 #[test]
-fn each_length_has_one_cause(rt: HostRuntime) {
+fn each_length_has_one_fault(rt: HostRuntime) {
     let mut bytes = [0u8; 64];
     bytes[0] = 2;
     bytes[1] = 2;
@@ -259,18 +259,18 @@ fn reads_packets_of_version_2_and_writes_them_again(rt: HostRuntime) {
     let mut cmds = BlockList::new();
     assert!(rt; cmds.push(EARLIER));
     assert!(rt; cmds.push(NEWEST));
-    let packet = Packet::Steps(StepsPacket { seq: 258, cmds });
+    let packet = Packet::Moves(MovesPacket { seq: 258, cmds });
     assert_eq!(rt; read_packet(&TWO_COMMANDS), Ok(packet));
     let mut again = BlockList::new();
     assert!(rt; again.push(EARLIER));
     assert!(rt; again.push(NEWEST));
-    let steps = StepsPacket {
+    let steps = MovesPacket {
         seq: 258,
         cmds: again,
     };
-    assert_eq!(rt; EARLIER.numbered(257).seq, 257);
+    assert_eq!(rt; EARLIER.move_with_number(257).seq, 257);
     assert_eq!(rt;
-        write_packet(&Packet::Steps(steps)).as_slice(),
+        write_packet(&Packet::Moves(steps)).as_slice(),
         TWO_COMMANDS.as_slice()
     );
 }

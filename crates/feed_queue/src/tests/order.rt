@@ -1,5 +1,5 @@
 use crate::place_list::PlaceList;
-use crate::{MOST_PLACES, NoFeedGate, gather};
+use crate::{MOST_PLACES, NoFeedHold, gather};
 use packet_read::{Arrival, ArrivalBytes};
 use std::test::*;
 
@@ -16,10 +16,10 @@ fn packets_of_one_port_stay_in_order(rt: HostRuntime) -> Result<(), Fail> {
         &rt,
         rt.alloc(),
         &[arrival(7), arrival(7), arrival(7)],
-        &NoFeedGate,
+        &NoFeedHold,
     )?;
     assert_eq!(rt; order.as_slice(), [0, 1, 2].as_slice());
-    let order = gather(&rt, rt.alloc(), &[], &NoFeedGate)?;
+    let order = gather(&rt, rt.alloc(), &[], &NoFeedHold)?;
     assert_eq!(rt; order.as_slice(), [].as_slice());
     Ok(())
 }

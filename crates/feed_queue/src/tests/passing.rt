@@ -1,4 +1,4 @@
-use crate::{FeedGate, gather};
+use crate::{FeedHold, gather};
 use packet_read::{Arrival, ArrivalBytes};
 use std::alloc::AllocGlobal;
 use std::process::Abort;
@@ -46,7 +46,7 @@ impl HoldingGate {
     }
 }
 
-impl FeedGate for HoldingGate {
+impl FeedHold for HoldingGate {
     fn at(&self, feeder: u8, sent: u32) {
         if feeder == self.held && sent == 1 {
             self.has_sent.store(true, Ordering::SeqCst);

@@ -98,23 +98,23 @@ fn at(x: i32, y: i32, z: i32) -> Vec3
 fn a_box_between_known_corners_reaches_the_limit(rt: HostRuntime) -> Result<(), Fail> {
     let lo = at(-2_097_152, -2_097_152, -2_097_152);
     let hi = at(2_097_152, 2_097_152, 2_097_152);
-    assert_eq!(rt; Some(Aabb::between(lo, hi)), cube(-2_097_152, 2_097_152));
-    assert_eq!(rt; Some(Aabb::between(hi, hi)), cube(2_097_152, 2_097_152));
+    assert_eq!(rt; Some(Aabb::from_corners(lo, hi)), cube(-2_097_152, 2_097_152));
+    assert_eq!(rt; Some(Aabb::from_corners(hi, hi)), cube(2_097_152, 2_097_152));
     Ok(())
 }
 
 #[test]
 fn a_box_grows_to_the_limit(rt: HostRuntime) -> Result<(), Fail> {
-    let inner = Aabb::between(at(-2_097_151, 5, -2_097_152), at(5, 2_097_150, 2_097_152));
-    let outer = Aabb::between(at(-2_097_152, 3, -2_097_152), at(6, 2_097_152, 2_097_152));
+    let inner = Aabb::from_corners(at(-2_097_151, 5, -2_097_152), at(5, 2_097_150, 2_097_152));
+    let outer = Aabb::from_corners(at(-2_097_152, 3, -2_097_152), at(6, 2_097_152, 2_097_152));
     assert_eq!(rt; inner.grown(at(1, 2, 0)), outer);
     Ok(())
 }
 
 #[test]
 fn a_box_is_shifted_to_the_limit(rt: HostRuntime) -> Result<(), Fail> {
-    let here = Aabb::between(at(2_097_142, -2_097_145, 0), at(2_097_151, -2_097_143, 9));
-    let there = Aabb::between(
+    let here = Aabb::from_corners(at(2_097_142, -2_097_145, 0), at(2_097_151, -2_097_143, 9));
+    let there = Aabb::from_corners(
         at(2_097_143, -2_097_152, -2_097_152),
         at(2_097_152, -2_097_150, -2_097_143),
     );

@@ -34,7 +34,7 @@ fn region_holds_17_boxes(rt: HostRuntime) -> Result<(), Fail> {
 /// Whether a region of two columns touches a third.
 fn is_touched(from: i32, to: i32) -> Option<bool> {
     let (region, _) = filled(column(0, 10)?, column(100, 110)?);
-    Some(region.touched(&column(from, to)?))
+    Some(region.is_touched_by(&column(from, to)?))
 }
 
 #[test]

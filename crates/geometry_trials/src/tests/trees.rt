@@ -238,7 +238,7 @@ fn a_box_has_leaves_on_both_sides_of_its_cuts(rt: HostRuntime) -> Result<(), Fai
         let tree = tree_of(ARENA, depth)?;
         let found = tree.leaves_of(&Region::one(b));
         assert_eq!(rt; found, leaves, "{depth}");
-        assert_eq!(rt; tree.visited(found), nodes, "{depth}");
+        assert_eq!(rt; tree.visited_nodes(found), nodes, "{depth}");
     }
     // a box that ends on the root's cut
     let b = box_of([4_096, -8_192, 0, 8_192, 0, 8_192]).ok_or("a box")?;
@@ -277,7 +277,7 @@ fn expect_row(rt: &impl Abort, row: &Row) -> Result<(), Fail> {
     assert_eq!(rt; tree.node_of(&first), row.node, "{arena:?}");
     let leaves = tree.leaves_of(&region);
     assert_eq!(rt; leaves, row.leaves, "{arena:?}");
-    assert_eq!(rt; tree.visited(leaves), row.nodes, "{arena:?}");
+    assert_eq!(rt; tree.visited_nodes(leaves), row.nodes, "{arena:?}");
     Ok(())
 }
 

@@ -5,7 +5,7 @@ ghost use Rattle.core_steps.specs.Views.{Resolving, region_in, things_in, effect
 ghost use Rattle.core_steps.specs.Steps.{sensing};
 ghost use Rattle.core_seats.specs.NearKept.{players_kept};
 ghost use Rattle.ruled_words.specs.Passes.{fixed_in, IsOwn};
-ghost use Rattle.ruled_words.specs.Hands.{keeping};
+ghost use Rattle.ruled_words.specs.Hands.{pass_keeping};
 ghost use Rattle.ruled_words.specs.Straight.{in_view, HasKept};
 
 use crate::hand::Hand;
@@ -70,7 +70,7 @@ impl<'a, A: Action> SharedWords<'a, A> {
         ensures view { hand.new ≡ in_view hand.old
             (record hand.old.view { states = hand.new.view.states; point = Resolving }) }
         ensures effect { result ≡ effect_loaded (fixed_in A.meaning self.now) hand.new.view }
-        ensures resolved { IsOwn A.meaning self.now (keeping hand.new result) }
+        ensures resolved { IsOwn A.meaning self.now (pass_keeping hand.new result) }
         ensures room { near.new.room ≡ near.old.room }
     {
         self.ids_rise();

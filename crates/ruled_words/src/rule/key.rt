@@ -39,4 +39,4 @@ impl<A: Action> TableRule<(), Sight, Key<A>> for Locks<A> {
 pub(crate) type Words<A> = Shared<(), Sight, Key<A>, Locks<A>>;
 
 /// A seat at the table.
-pub(crate) type Place = Seat<(), Sight>;
+pub(crate) type TableSeat = Seat<(), Sight>;

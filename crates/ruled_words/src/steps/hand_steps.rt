@@ -6,7 +6,7 @@ ghost use Rattle.core_steps.specs.Views.{Idle, record_read};
 ghost use Rattle.core_seats.specs.Nexts.{the_next};
 ghost use Rattle.core_seats.specs.Seats.{view_of};
 ghost use Rattle.ruled_words.specs.Going.{IsAtRest, view_looked};
-ghost use Rattle.ruled_words.specs.Hands.{begun_with, keeping, pass_view, still_keeping};
+ghost use Rattle.ruled_words.specs.Hands.{begun_with, pass_keeping, pass_view, still_keeping};
 ghost use Rattle.ruled_words.specs.Plays.{IsSoundSight};
 ghost use Rattle.ruled_words.specs.Holders.{IsFoundHeld, AreReached};
 ghost use Rattle.ruled_words.specs.Passes.{fixed_in, word_after, IsOwn, next_in, after_in, sight_of, HasGone};
@@ -67,24 +67,24 @@ impl<'a, A: Action> SharedWords<'a, A> {
         word: usize,
         step: WordStep,
     ) -> u64
-        requires own { IsOwn A.meaning self.now (keeping hand.old effect.now) }
-        requires comes { is_some (next_in A.meaning self.now (keeping hand.old effect.now)) ≡ true }
+        requires own { IsOwn A.meaning self.now (pass_keeping hand.old effect.now) }
+        requires comes { is_some (next_in A.meaning self.now (pass_keeping hand.old effect.now)) ≡ true }
         requires index { word ≡ index_of hand.old.view
-            (the_next (next_in A.meaning self.now (keeping hand.old effect.now))) }
-        requires left { (found : ℕ) → word_after (fixed_in A.meaning self.now) (keeping hand.old effect.now) found
+            (the_next (next_in A.meaning self.now (pass_keeping hand.old effect.now))) }
+        requires left { (found : ℕ) → word_after (fixed_in A.meaning self.now) (pass_keeping hand.old effect.now) found
             ≡ word_by step found }
         requires may { MayBe step (fixed_in A.meaning self.now) hand.old.view
-            (the_next (next_in A.meaning self.now (keeping hand.old effect.now))) word }
+            (the_next (next_in A.meaning self.now (pass_keeping hand.old effect.now))) word }
         ensures pass { still_keeping hand.new effect.now
-            ≡ after_in A.meaning self.now result (keeping hand.old effect.now) }
+            ≡ after_in A.meaning self.now result (pass_keeping hand.old effect.now) }
         ensures own { IsOwn A.meaning self.now (still_keeping hand.new effect.now) }
         ensures held { IsFoundHeld (fixed_in A.meaning self.now) (length self.now.rooms) hand.old.number
-            (the_next (next_in A.meaning self.now (keeping hand.old effect.now))) result }
+            (the_next (next_in A.meaning self.now (pass_keeping hand.old effect.now))) result }
         ensures reached { AreReached (fixed_in A.meaning self.now) hand.old.view
-            (the_next (next_in A.meaning self.now (keeping hand.old effect.now))) }
-        ensures seen { kind_of (the_next (next_in A.meaning self.now (keeping hand.old effect.now))) ≡ Commit
+            (the_next (next_in A.meaning self.now (pass_keeping hand.old effect.now))) }
+        ensures seen { kind_of (the_next (next_in A.meaning self.now (pass_keeping hand.old effect.now))) ≡ Commit
             → hand.old.view.seen ≤ result }
-        ensures small { kind_of (the_next (next_in A.meaning self.now (keeping hand.old effect.now))) ≡ Commit
+        ensures small { kind_of (the_next (next_in A.meaning self.now (pass_keeping hand.old effect.now))) ≡ Commit
             → result + 1 < 2 ^ 64 }
         ensures stored { (new : ℕ) → step ≡ WordStep.Store new → result ≡ new }
     {

@@ -7,7 +7,7 @@ ghost use Rattle.ruled_words.specs.Going.{MayGo};
 ghost use Rattle.ruled_words.specs.Plays.{IsSoundSight, SeatStepped};
 ghost use Rattle.ruled_words.specs.WordSteps.{word_by, MayBe};
 
-use crate::rule::key::{Place, Words};
+use crate::rule::key::{TableSeat, Words};
 use crate::rule::plays::{Goes, Planned};
 use crate::word_step::WordStep;
 use entity_recs::Action;
@@ -17,7 +17,7 @@ use entity_recs::Action;
 pub(crate) fn step_as<A: Action, N: Planned, T>(
     words: &Words<A>,
     about: &T,
-    seat: &mut Place,
+    seat: &mut TableSeat,
     word: usize,
     step: WordStep,
 ) -> u64

@@ -5,13 +5,13 @@ ghost use Rattle.ruled_words.specs.Sights.{with_one_made, sight_made, with_one_e
 ghost use Rattle.ruled_words.specs.Going.{IsAtRest};
 ghost use Rattle.ruled_words.specs.Plays.{SeatLooked};
 
-use crate::rule::key::{Place, Words};
+use crate::rule::key::{TableSeat, Words};
 use crate::rule::plays::{Ends, Looks, Makes, Planned, Roomed};
 use entity_recs::Action;
 use std::marker::Brand;
 
 /// The seat looks at the count of commits, by a pick.
-fn look_as<A: Action, N: Planned>(words: &Words<A>, seat: &mut Place) -> u64
+fn look_as<A: Action, N: Planned>(words: &Words<A>, seat: &mut TableSeat) -> u64
     requires table { (seat.old.table_id ≡ words.now.table_id) × (words.now.table_id.words ≡ TABLE_WORDS) }
     requires fixed { N.fixed ≡ (fixed_by A.meaning words.now.key.action.value
         words.now.key.world.value) }
@@ -24,7 +24,7 @@ fn look_as<A: Action, N: Planned>(words: &Words<A>, seat: &mut Place) -> u64
 }
 
 /// A seat that rests looks at the count of commits.
-pub(crate) fn look<A: Action>(words: &Words<A>, seat: &mut Place) -> u64
+pub(crate) fn look<A: Action>(words: &Words<A>, seat: &mut TableSeat) -> u64
     requires table { (seat.old.table_id ≡ words.now.table_id) × (words.now.table_id.words ≡ TABLE_WORDS) }
     requires rests { IsAtRest seat.old.me.0.view }
     ensures table { seat.new.table_id ≡ seat.old.table_id }
@@ -35,7 +35,7 @@ pub(crate) fn look<A: Action>(words: &Words<A>, seat: &mut Place) -> u64
 }
 
 /// A seat is made from seat 0, by a pick.
-fn make_as<A: Action, N: Roomed>(words: &Words<A>, seat: &mut Place, room: u32) -> Place
+fn make_as<A: Action, N: Roomed>(words: &Words<A>, seat: &mut TableSeat, room: u32) -> TableSeat
     requires table { (seat.old.table_id ≡ words.now.table_id) × (words.now.table_id.words ≡ TABLE_WORDS) }
     requires room { N.room ≡ room }
     requires rests { IsAtRest seat.old.me.0.view }
@@ -51,7 +51,7 @@ fn make_as<A: Action, N: Roomed>(words: &Words<A>, seat: &mut Place, room: u32) 
 }
 
 /// A seat with this room is made from seat 0, which rests.
-pub(crate) fn make<A: Action>(words: &Words<A>, seat: &mut Place, room: u32) -> Place
+pub(crate) fn make<A: Action>(words: &Words<A>, seat: &mut TableSeat, room: u32) -> TableSeat
     requires table { (seat.old.table_id ≡ words.now.table_id) × (words.now.table_id.words ≡ TABLE_WORDS) }
     requires rests { IsAtRest seat.old.me.0.view }
     requires first { seat.old.me.0.number ≡ 0 }
@@ -64,7 +64,7 @@ pub(crate) fn make<A: Action>(words: &Words<A>, seat: &mut Place, room: u32) -> 
 }
 
 /// Another seat that rests is ended into seat 0.
-pub(crate) fn end<A: Action>(words: &Words<A>, seat: &mut Place, other: Place)
+pub(crate) fn end<A: Action>(words: &Words<A>, seat: &mut TableSeat, other: TableSeat)
     requires table { (seat.old.table_id ≡ words.now.table_id) × (other.table_id ≡ words.now.table_id)
         × (words.now.table_id.words ≡ TABLE_WORDS) }
     requires rests { IsAtRest seat.old.me.0.view × IsAtRest other.me.0.view }

@@ -3,7 +3,7 @@ ghost use Rattle.core_steps.specs.Views.{Resolving, Claiming, effect_loaded};
 ghost use Rattle.core_steps.specs.Steps.{first, view_after_take, view_after_claim};
 ghost use Rattle.core_seats.specs.Refusals.{AreRefusals};
 ghost use Rattle.ruled_words.specs.Passes.{fixed_in, IsOwn};
-ghost use Rattle.ruled_words.specs.Writing.{HasTried, nodes_written, nodes_held, claims_left, claimed};
+ghost use Rattle.ruled_words.specs.Writing.{HasTried, nodes_written, nodes_held, claims_left, view_with_claims};
 
 use crate::hand::Hand;
 use crate::nodes::taking::note_refused;
@@ -129,7 +129,7 @@ impl<'a, A: Action> SharedWords<'a, A> {
         requires own_is { own.now ≡ hand.old.view.own }
         requires wanted_is { wanted.now.items ≡ hand.old.view.wanted }
         ensures own { IsOwn A.meaning self.now hand.new }
-        ensures tried { HasTried hand.old (claimed (fixed_in A.meaning self.now) effect.now hand.old.view) hand.new }
+        ensures tried { HasTried hand.old (view_with_claims (fixed_in A.meaning self.now) effect.now hand.old.view) hand.new }
         ensures refusals { AreRefusals refusals.old hand.old.view → AreRefusals refusals.new hand.new.view }
     {
         hand.is_plain();

@@ -100,7 +100,7 @@ fn a_generator_gives_the_events(rt: HostRuntime) {
 /// In each of the first two frames one packet of a player arrives or none, and in the last one those of both.
 #[test]
 fn a_resending_generator_gives_the_events(rt: HostRuntime) {
-    assert_eq!(rt; counts_of(Generator::resending(7, 2, 3)), (3, 5, 1));
+    assert_eq!(rt; counts_of(Generator::with_resends(7, 2, 3)), (3, 5, 1));
 }
 
 #[test]

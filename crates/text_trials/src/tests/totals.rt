@@ -1,4 +1,4 @@
-use match_play::{Game, Totals, play_match};
+use match_play::{MatchGame, Totals, play_match};
 use move_journal::Journal;
 use playback::Host;
 use shared_moves::NoGate;
@@ -26,7 +26,7 @@ fn expect_journals(rt: &impl Abort, journals: &[Journal]) {
 /// Each of two players joins and moves once, and neither comes near an item or the goal in so short a time.
 #[test]
 fn two_players_and_one_frame(rt: HostRuntime) -> Result<(), Fail> {
-    let mut game = Game::new(rt.alloc())?;
+    let mut game = MatchGame::new(rt.alloc())?;
     let host = Host {
         rt: &rt,
         alloc: rt.alloc(),

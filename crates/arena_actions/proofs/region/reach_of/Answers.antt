@@ -2,7 +2,7 @@ use Rattle.std.proofs.Common.{◌≡◌, ℕ, ◌+◌, ap, ◌∙◌, arith}
 use Rattle.arena_geo.specs.declared.vec3.Vec3.{Vec3}
 use Rattle.arena_geo.specs.Vectors.{IsNear}
 use Rattle.arena_geo.specs.Bounds.{Bounds}
-use Rattle.arena_geo.specs.Boxes.{grown}
+use Rattle.arena_geo.specs.Boxes.{box_grown_by}
 use Rattle.entity_recs.specs.declared.rec.Rec.{Rec}
 use Rattle.entity_recs.specs.Bodies.{abs_of}
 use Rattle.player_move.specs.Laws.{reach_on}
@@ -12,11 +12,11 @@ use Rattle.arena_actions.proofs.region.reach_of.Goals as goal
 
 -- the absolute box, larger by what the move goes and what there is to spare, is the reach
 reached : (me : Rec) (ms x y z : ℕ) → x ≡ reach_on me.vel.x ms → y ≡ reach_on me.vel.y ms → z ≡ reach_on me.vel.z ms
-    → grown (abs_of me) (amount (x + 256) (y + 256) (z + 4864)) ≡ reach_of me ms
+    → box_grown_by (abs_of me) (amount (x + 256) (y + 256) (z + 4864)) ≡ reach_of me ms
 reached me ms x y z x_is y_is z_is =
-    ap (λ (n : ℕ). grown (abs_of me) (amount (n + 256) (y + 256) (z + 4864))) x_is
-    ∙ ap (λ (n : ℕ). grown (abs_of me) (amount (reach_on me.vel.x ms + 256) (n + 256) (z + 4864))) y_is
-    ∙ ap (λ (n : ℕ). grown (abs_of me) (amount (reach_on me.vel.x ms + 256) (reach_on me.vel.y ms + 256) (n + 4864))) z_is
+    ap (λ (n : ℕ). box_grown_by (abs_of me) (amount (n + 256) (y + 256) (z + 4864))) x_is
+    ∙ ap (λ (n : ℕ). box_grown_by (abs_of me) (amount (reach_on me.vel.x ms + 256) (n + 256) (z + 4864))) y_is
+    ∙ ap (λ (n : ℕ). box_grown_by (abs_of me) (amount (reach_on me.vel.x ms + 256) (reach_on me.vel.y ms + 256) (n + 4864))) z_is
 
 pub grown-requires-clause-in_range : goal.grown-requires-clause-in_range
 grown-requires-clause-in_range c =
@@ -26,8 +26,8 @@ grown-requires-clause-in_range c =
 pub returns : goal.returns
 returns c =
     c.grown.ensures
-    ∙ ap (λ (b : Bounds). grown b c.amount-by.result) c.abs_box.ensures
-    ∙ ap (λ (by : Vec3). grown (abs_of c.args.me.now) by) c.amount-by.ensures.value
+    ∙ ap (λ (b : Bounds). box_grown_by b c.amount-by.result) c.abs_box.ensures
+    ∙ ap (λ (by : Vec3). box_grown_by (abs_of c.args.me.now) by) c.amount-by.ensures.value
     ∙ reached c.args.me.now c.args.ms _ _ _
     (read-reach c.reach_on.result c.args.ms c.args.me.now.vel.x near.x c.reach_on.ensures.value)
     (read-reach c.reach_on-2.result c.args.ms c.args.me.now.vel.y near.y c.reach_on-2.ensures.value)

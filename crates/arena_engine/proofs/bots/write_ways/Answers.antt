@@ -23,7 +23,7 @@ returns-in_err-write_least-clause-err g c =
     } in
     rw (p.1 ∙ ap Err p.2)
     (ways-cut g.K.Sink m c.args.target c.args.sink.now c.write_least.new.sink (least_line plan.least) c.write_least.result c.in_err-write_least.field-0.0 c.in_err-write_least.was
-    wrote.write_fault wrote.no_memory wrote.later wrote.cause wrote.sure (inr shows))
+    wrote.write_fault wrote.no_memory wrote.later wrote.fault wrote.sure (inr shows))
 
 pub returns-in_err-write_plan-clause-err : goal.returns-in_err-write_plan-clause-err
 returns-in_err-write_plan-clause-err g c =
@@ -37,4 +37,4 @@ returns-in_err-write_plan-clause-err g c =
     let shows = shows-way m plan c.args.target c.spawns.ensures.rules planned.least planned.certificate planned.no_way.1 planned.way planned.walk few some in
     rw (p.1 ∙ ap Err p.2)
     (ways-cut g.K.Sink m c.args.target c.args.sink.now c.write_plan.new.sink (plan_text m plan) c.write_plan.result c.in_err-write_plan.field-0.0 c.in_err-write_plan.was
-    wrote.write_fault wrote.no_memory wrote.later wrote.cause wrote.sure (inl shows))
+    wrote.write_fault wrote.no_memory wrote.later wrote.fault wrote.sure (inl shows))

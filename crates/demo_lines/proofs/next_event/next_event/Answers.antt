@@ -186,7 +186,7 @@ returns-in-Err-clause-stop g c =
       read_fault = record {
         read_fault = λ open'. ReadsFront-drained _ c.loop-reading.reading _ _ (g.S.Source.left c.next_line.new.source) c.next_line.new.self c.next_line.new.line inv.walks.reads inv.walks.going fails.failed;
         no_end = fails.no_end ∙ inv.before_end;
-        cause = λ open'. rw (← inv.uncounted) fails.faults.cause;
+        fault = λ open'. rw (← inv.uncounted) fails.faults.fault;
         sure = λ open' sure. (let none : false ≡ true = fails.sure (inv.keeps sure) in cc);
       };
       memory = tt;

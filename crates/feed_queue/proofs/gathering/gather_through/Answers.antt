@@ -3,7 +3,7 @@ use Rattle.crossbeam_queue.specs.Fifo.{Forks, Merges}
 use Rattle.crossbeam_queue.specs.Passes.{view}
 use Rattle.feed_queue.specs.declared.hand.Hand.{Hand}
 use Rattle.feed_queue.specs.Orders.{places_below}
-use Rattle.feed_queue.specs.Hands.{hand, nothing_done, spent, feeder_hand, without_evens, evens_alone, with_evens, without_odds, odds_alone, with_odds}
+use Rattle.feed_queue.specs.Hands.{hand, nothing_done, empty_hand, feeder_hand, without_evens, evens_alone, with_evens, without_odds, odds_alone, with_odds}
 use Rattle.feed_queue.specs.Rule.{IsKept}
 use Rattle.feed_queue.proofs.Keeping.{forks_evens, forks_odds, merges_evens, merges_odds}
 use Rattle.feed_queue.proofs.gathering.gather_through.Goals as goal
@@ -29,7 +29,7 @@ absorb-requires-clause-rule g c =
     let id = c.another-odds.new.pass.id in
     let other = c.join-evens.result.0.id in
     let mine : List ℕ = places_below ports 0 (length ports) in
-    let P : Hand → Hand → Type 0 = λ v w. Merges (IsKept ports) id v other w (with_evens v w) spent in
+    let P : Hand → Hand → Type 0 = λ v w. Merges (IsKept ports) id v other w (with_evens v w) empty_hand in
     let seen : view c.another-odds.new.pass ≡ hand None None (Some []) =
     c.another-odds.ensures.rule.0 ∙ ap without_odds (c.another-evens.ensures.rule.0 ∙ ap without_evens c.requires.unused) in
     let fed : view c.join-evens.result.0 ≡ feeder_hand 0 mine = c.join-evens.ensures.first.1 in
@@ -43,7 +43,7 @@ absorb-requires-2-clause-rule g c =
     let other = c.join-evens.result.1.id in
     let evens : List ℕ = places_below ports 0 (length ports) in
     let mine : List ℕ = places_below ports 1 (length ports) in
-    let P : Hand → Hand → Type 0 = λ v w. Merges (IsKept ports) id v other w (with_odds v w) spent in
+    let P : Hand → Hand → Type 0 = λ v w. Merges (IsKept ports) id v other w (with_odds v w) empty_hand in
     let before : view c.another-odds.new.pass ≡ hand None None (Some []) =
     c.another-odds.ensures.rule.0 ∙ ap without_odds (c.another-evens.ensures.rule.0 ∙ ap without_evens c.requires.unused) in
     let seen : view c.absorb.new.pass ≡ hand (Some evens) None (Some []) =

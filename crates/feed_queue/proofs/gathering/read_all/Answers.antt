@@ -1,7 +1,7 @@
 use Rattle.std.proofs.Common.{◌≡◌, Some, length, sym, subst, arith}
 use Rattle.crossbeam_queue.specs.Fifo.{Pops, Learns, Held}
 use Rattle.feed_queue.specs.declared.hand.Hand.{Hand}
-use Rattle.feed_queue.specs.Hands.{popped}
+use Rattle.feed_queue.specs.Hands.{hand_after_pop}
 use Rattle.feed_queue.specs.Orders.{places_below}
 use Rattle.feed_queue.specs.Rule.{IsKept, Holds}
 use Rattle.feed_queue.proofs.Keeping.{gets, holds, not_empty, all_popped}
@@ -11,7 +11,7 @@ pub pop_as-requires-clause-rule : goal.pop_as-requires-clause-rule
 pop_as-requires-clause-rule g c =
     let ports = g.N.Ported.ports in
     let id = c.loop.pass.id in
-    let P : Hand → Type 0 = λ v. Pops (IsKept ports) id v (λ x w. w ≡ popped v x) × Learns (IsKept ports) id v (Holds ports v) in
+    let P : Hand → Type 0 = λ v. Pops (IsKept ports) id v (λ x w. w ≡ hand_after_pop v x) × Learns (IsKept ports) id v (Holds ports v) in
     let evens = places_below ports 0 (length ports) in
     let odds = places_below ports 1 (length ports) in
     subst P (sym c.loop.invariant.1) (gets ports (Some evens) (Some odds) c.loop.order id, holds ports evens odds c.loop.order id)

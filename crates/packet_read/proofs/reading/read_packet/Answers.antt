@@ -1,7 +1,7 @@
 use Rattle.std.proofs.Common.{◌∙◌, sym, arith}
 use Rattle.std.proofs.lemmas.Grind.{common_steps}
 use Rattle.byte_lists.proofs.Bytes.{bytes_are}
-use Rattle.packet_read.proofs.Rules.{found_spells, spelled_read, read_cause, cause_read}
+use Rattle.packet_read.proofs.Rules.{found_spells, spelled_read, read_fault, fault_read}
 use Rattle.packet_read.proofs.reading.read_packet.Goals as goal
 
 pub returns-in-1-clause-answer : goal.returns-in-1-clause-answer
@@ -26,8 +26,8 @@ returns-in-2-clause-found c =
 pub returns-in-2-clause-only : goal.returns-in-2-clause-only
 returns-in-2-clause-only c = λ p s. returns-in-2-clause-answer c ∙ spelled_read c.args.bytes.now p s
 
-pub returns-in-2-clause-cause : goal.returns-in-2-clause-cause
-returns-in-2-clause-cause c = λ fault. (
-  λ e. read_cause c.args.bytes.now fault (sym (returns-in-2-clause-answer c) ∙ e),
-  λ e. returns-in-2-clause-answer c ∙ cause_read c.args.bytes.now fault e,
+pub returns-in-2-clause-fault : goal.returns-in-2-clause-fault
+returns-in-2-clause-fault c = λ fault. (
+  λ e. read_fault c.args.bytes.now fault (sym (returns-in-2-clause-answer c) ∙ e),
+  λ e. returns-in-2-clause-answer c ∙ fault_read c.args.bytes.now fault e,
 )

@@ -1,6 +1,6 @@
 use Rattle.std.proofs.Common.{◌≡◌, ◌+◌, ◌-◌, ◌++◌, ◌∙◌, arith, sym, subst}
 use Rattle.arena_geo.specs.Bounds.{IsInRange}
-use Rattle.arena_geo.specs.Boxes.{moved}
+use Rattle.arena_geo.specs.Boxes.{box_moved_by}
 use Rattle.slide_move.specs.declared.slid.Slid.{Slid}
 use Rattle.slide_move.proofs.Ways.{IsInRange-part, moved-zero_vector}
 use Rattle.slide_move.proofs.Underway.{IsUnderway, begins, goes_on, ends_early, ends, leg_fits, leg_in_range, near_left, left_in_range, then_there}
@@ -9,7 +9,7 @@ use Rattle.slide_move.proofs.sliding.slide_along.Goals as goal
 pub loop-init : goal.loop-init
 loop-init c =
     let P : Slid → Type 0 = λ slid. IsUnderway c.args.body.now c.args.vel c.args.way (c.args.fixed.now ++ c.args.moving.now) 4 slid c.args.way in
-    let Q : Slid → Type 0 = λ slid. c.copied-here.result ≡ moved c.args.body.now slid.shift in
+    let Q : Slid → Type 0 = λ slid. c.copied-here.result ≡ box_moved_by c.args.body.now slid.shift in
     record {
       underway = subst P (sym c.still-slid.ensures) (begins c.args.body.now c.args.vel c.args.way (c.args.fixed.now ++ c.args.moving.now));
       at = subst Q (sym c.still-slid.ensures) (c.copied-here.ensures.value ∙ sym (moved-zero_vector c.args.body.now));

@@ -1,7 +1,7 @@
 use Rattle.std.proofs.Common.{◌≡◌, ◌≤◌, false, map, take}
 use Rattle.std.specs.List.{list_any}
 use Rattle.snapshot_write.specs.declared.seen.TheConstants.{MOST_SEEN}
-use Rattle.snapshot_write.specs.Cause.{has_wrong_field}
+use Rattle.snapshot_write.specs.Faults.{has_wrong_field}
 use Rattle.snapshot_write.specs.Reading.{seen_in}
 use Rattle.snapshot_write.proofs.reading.read_seen.Given as goal
 

@@ -1,6 +1,6 @@
 use Rattle.std.proofs.Common.{◌∙◌, sym, arith}
 use Rattle.byte_lists.proofs.Bytes.{bytes_are}
-use Rattle.snapshot_write.proofs.Rules.{found_spells, spelled_read, read_cause, cause_read}
+use Rattle.snapshot_write.proofs.Rules.{found_spells, spelled_read, read_fault, fault_read}
 use Rattle.snapshot_write.proofs.reading.read_snapshot.Goals as goal
 
 pub returns-clause-found : goal.returns-clause-found
@@ -11,8 +11,8 @@ returns-clause-found c =
 pub returns-clause-only : goal.returns-clause-only
 returns-clause-only c = λ s spells. c.read_or_fault.ensures ∙ spelled_read c.args.bytes.now s spells
 
-pub returns-clause-cause : goal.returns-clause-cause
-returns-clause-cause c = λ fault. (
-  λ e. read_cause c.args.bytes.now fault (sym c.read_or_fault.ensures ∙ e),
-  λ e. c.read_or_fault.ensures ∙ cause_read c.args.bytes.now fault e,
+pub returns-clause-fault : goal.returns-clause-fault
+returns-clause-fault c = λ fault. (
+  λ e. read_fault c.args.bytes.now fault (sym c.read_or_fault.ensures ∙ e),
+  λ e. c.read_or_fault.ensures ∙ fault_read c.args.bytes.now fault e,
 )

@@ -3,7 +3,7 @@ use Rattle.std.specs.Prelude.{FitsSigned}
 use Rattle.std.specs.Int.{w32}
 use Rattle.std.proofs.lemmas.Int.{to_z-of_z}
 use Rattle.arena_geo.proofs.Vectors.{same_parts}
-use Rattle.speed_rules.specs.Measures.{scaled}
+use Rattle.speed_rules.specs.Measures.{scaled_part}
 use Rattle.speed_rules.proofs.Shares.{scaled_le_by}
 use Rattle.speed_rules.proofs.Typed.{sum_is, fits_sum}
 use Rattle.speed_rules.proofs.acceleration.push.Goals as goal
@@ -26,8 +26,8 @@ returns c =
     let vel_z_fits : FitsSigned w32 c.args.vel.z = search rules in
     let x = simp to_z-of_z at c.scale.ensures.value in
     let y = simp to_z-of_z at c.scale-2.ensures.value in
-    let x_sum : FitsSigned w32 (c.args.vel.x +ℤ scaled c.args.x c.args.gain c.args.len) = fits_sum c.args.vel.x (scaled c.args.x c.args.gain c.args.len) c.requires.near.x (omega (arith, c.requires.small, scaled_le_by c.args.x c.args.gain c.args.len c.requires.some c.requires.x_is_part)) in
-    let y_sum : FitsSigned w32 (c.args.vel.y +ℤ scaled c.args.y c.args.gain c.args.len) = fits_sum c.args.vel.y (scaled c.args.y c.args.gain c.args.len) c.requires.near.y (omega (arith, c.requires.small, scaled_le_by c.args.y c.args.gain c.args.len c.requires.some c.requires.y_is_part)) in
+    let x_sum : FitsSigned w32 (c.args.vel.x +ℤ scaled_part c.args.x c.args.gain c.args.len) = fits_sum c.args.vel.x (scaled_part c.args.x c.args.gain c.args.len) c.requires.near.x (omega (arith, c.requires.small, scaled_le_by c.args.x c.args.gain c.args.len c.requires.some c.requires.x_is_part)) in
+    let y_sum : FitsSigned w32 (c.args.vel.y +ℤ scaled_part c.args.y c.args.gain c.args.len) = fits_sum c.args.vel.y (scaled_part c.args.y c.args.gain c.args.len) c.requires.near.y (omega (arith, c.requires.small, scaled_le_by c.args.y c.args.gain c.args.len c.requires.some c.requires.y_is_part)) in
     same_parts
     (sum_is w32 _ _ _ _ vel_x_fits (record { sfits = c.scale.type_inv }) x_sum refl x)
     (sum_is w32 _ _ _ _ vel_y_fits (record { sfits = c.scale-2.type_inv }) y_sum refl y)

@@ -2,7 +2,7 @@ use Rattle.std.proofs.Common.{sym, ap, ◌∙◌}
 use Rattle.entity_recs.specs.Commands.{Command, command_of}
 use Rattle.arena_actions.specs.MapActions.{map_in}
 use Rattle.plain_server.specs.Moving.{HasLivePlayer}
-use Rattle.out_text.specs.OutLines.{spelled}
+use Rattle.out_text.specs.OutLines.{line_spelling}
 use Rattle.transcript_check.specs.Moves.{move_line}
 use Rattle.transcript_check.proofs.Texts.{on_false-weaker}
 use Rattle.transcript_check.proofs.Turns.{next-has}
@@ -39,5 +39,5 @@ returns-clause-missed c =
     let cmd = c.in-Some-take_first_of.cmd in
     let one = one-next c.args.pending.now (command_of cmd) c' _ left c.in-Some-take_first_of.ensures.some next (c.in-Some-take_first_of.ensures.slot ∙ report.slot_is) in
     other (c.reported.ensures.given ∙ same
-    ∙ ap (λ (d : Command). spelled (move_line (map_in c.args.mover.now.action) c.args.world.now.records d)) (sym one.command)
-    ∙ ap spelled (sym c.run_for_line-line.ensures.line)))
+    ∙ ap (λ (d : Command). line_spelling (move_line (map_in c.args.mover.now.action) c.args.world.now.records d)) (sym one.command)
+    ∙ ap line_spelling (sym c.run_for_line-line.ensures.line)))

@@ -1,6 +1,6 @@
 use Rattle.std.proofs.Common.{ap, w32}
 use Rattle.std.proofs.lemmas.Int.{to_z-of_z}
-use Rattle.arena_map.specs.Places.{upwards}
+use Rattle.arena_map.specs.Positions.{upwards}
 use Rattle.world_physics.proofs.Raising.{raised_in_range}
 use Rattle.world_physics.proofs.lift_step.raised_body.Goals as goal
 

@@ -3,7 +3,7 @@ use Rattle.std.specs.Prelude.{Some}
 use Rattle.entity_recs.specs.declared.rec.Rec.{Rec}
 use Rattle.entity_recs.specs.Records.{IsRecord}
 use Rattle.world_tree.specs.Live.{record_at}
-use Rattle.world_physics.specs.Returns.{returned}
+use Rattle.world_physics.specs.Returns.{record_after_returns}
 use Rattle.world_physics.proofs.Changes.{is_entry, live_with, relinked-changed}
 use Rattle.world_physics.proofs.Returning.{record_in_any_state, due-returned, due_moves}
 use Rattle.world_physics.proofs.returns.return_item.Goals as goal
@@ -23,7 +23,7 @@ pub returns-then-is_due-clause-records : goal.returns-then-is_due-clause-records
 returns-then-is_due-clause-records c =
     let at : record_at c.args.world.now.records c.args.id ≡ Some c.in-Some.r = sym c.get.ensures.record ∙ c.in-Some.is in
     let entry = is_entry c.args.world.now c.args.id c.in-Some.r c.get.ensures.linked at in
-    relinked-changed c.args.world.now c.relink.new.self (returned c.args.frame) c.args.id c.in-Some.r c.back.result at
+    relinked-changed c.args.world.now c.relink.new.self (record_after_returns c.args.frame) c.args.id c.in-Some.r c.back.result at
     (due-returned c.args.frame c.in-Some.r c.back.result (sym c.is_due.ensures ∙ c.if-is_due.true) c.back.ensures)
     (ap (λ (r : Rec). r.id) c.back.ensures ∙ entry.own_id) c.relink.ensures.world
 

@@ -8,12 +8,12 @@ use Rattle.arena_actions.proofs.shot_action.ShotAction.act.Goals as goal
 
 pub returns-then-is_down : goal.returns-then-is_down
 returns-then-is_down c =
-    c.alone.ensures
-    ∙ ap (λ (r : Rec). effect_of (first_walk r)) c.lying.ensures
+    c.effect_on_self.ensures
+    ∙ ap (λ (r : Rec). effect_of (first_walk r)) c.player_while_down.ensures
     ∙ down_is c.args.self.now.arena.map c.args.me.now c.args.near.now (command_of c.args.cmd.now) (sym c.is_down.ensures ∙ c.if-is_down.true)
 
 pub returns : goal.returns
 returns c =
     c.shoot.ensures
-    ∙ ap (λ (r : Rec). shooting_in c.args.self.now.arena.map r c.args.near.now (command_of c.args.cmd.now)) c.risen.ensures
+    ∙ ap (λ (r : Rec). shooting_in c.args.self.now.arena.map r c.args.near.now (command_of c.args.cmd.now)) c.player_after_rising.ensures
     ∙ moves_is c.args.self.now.arena.map c.args.me.now c.args.near.now (command_of c.args.cmd.now) (sym c.is_down.ensures ∙ c.if-is_down.false)

@@ -1,6 +1,6 @@
 use Rattle.std.proofs.Common.{◌≡◌, ◌+◌, ◌++◌, ◌∷◌, [], None, length, drop, option_to_list, sym, subst, arith}
 use Rattle.std.proofs.lemmas.Grind.{common_steps}
-use Rattle.arena_map.specs.Places.{shaft_of}
+use Rattle.arena_map.specs.Positions.{shaft_of}
 use Rattle.arena_map.specs.Things.{record_of}
 use Rattle.arena_map.specs.Maps.{MapView, map_of}
 use Rattle.arena_map.specs.Rules.{broken_rule}

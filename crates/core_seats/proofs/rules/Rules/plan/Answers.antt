@@ -12,8 +12,8 @@ returns g c =
     let F = fixed_of g.A.Action.meaning (record { action = c.self.inside.action.now; tree = c.self.inside.tree; start = c.self.inside.start.items }) in
     let leaves = leaf_nodes_are F c.args.region.now c.from.result c.leaf_nodes-plan.result.items
     (c.from.ensures ∙ c.leaves_of-leaves.ensures.leaves) c.leaf_nodes-plan.ensures.nodes in
-    let inner = inner_visited_are F c.args.region.now c.leaves_of-leaves.result c.visited.result c.bits_below-inner.result.items
-    c.leaves_of-leaves.ensures.leaves c.visited.ensures.nodes
-    (c.bits_below-inner.ensures.numbers ∙ ap (λ (n : ℕ). filter (has_bit c.visited.result) (range_with_len 0 n)) c.first_leaf.ensures.value) in
+    let inner = inner_visited_are F c.args.region.now c.leaves_of-leaves.result c.visited_nodes.result c.bits_below-inner.result.items
+    c.leaves_of-leaves.ensures.leaves c.visited_nodes.ensures.nodes
+    (c.bits_below-inner.ensures.numbers ∙ ap (λ (n : ℕ). filter (has_bit c.visited_nodes.result) (range_with_len 0 n)) c.first_leaf.ensures.value) in
     rw (← c.self.view_is)
-    (c.joined.ensures ∙ ap (λ (ns : List ℕ). ns ++ c.bits_below-inner.result.items) leaves ∙ ap (λ (ns : List ℕ). leaf_nodes F c.args.region.now ++ ns) inner)
+    (c.nodes_then.ensures ∙ ap (λ (ns : List ℕ). ns ++ c.bits_below-inner.result.items) leaves ∙ ap (λ (ns : List ℕ). leaf_nodes F c.args.region.now ++ ns) inner)

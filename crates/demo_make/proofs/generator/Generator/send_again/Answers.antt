@@ -1,8 +1,8 @@
 use Rattle.std.proofs.Common.{◌≡◌, ℕ, ◌+◌, ◌-◌, List, ◌∷◌, ap, ◌∙◌, sym, subst, arith}
 use Rattle.packet_read.specs.declared.block_list.CmdBlock.{CmdBlock}
-use Rattle.packet_read.specs.declared.steps_packet.StepsPacket.{StepsPacket}
-use Rattle.packet_read.specs.declared.packet.Packet.TheVariants.{Steps}
-use Rattle.packet_read.specs.Spelling.{spelling, IsAllowedSteps}
+use Rattle.packet_read.specs.declared.moves_packet.MovesPacket.{MovesPacket}
+use Rattle.packet_read.specs.declared.packet.Packet.TheVariants.{Moves}
+use Rattle.packet_read.specs.Spelling.{spelling, IsAllowedMoves}
 use Rattle.demo_lines.specs.declared.event.Event.TheVariants as events
 use Rattle.demo_make.specs.ResentFrames.{last_commands, repeat_of, repeat_from}
 use Rattle.demo_make.specs.Remaining.{progress_of, left_of, remaining_events}
@@ -11,7 +11,7 @@ use Rattle.demo_make.proofs.Repeats.{steps-allowed}
 use Rattle.demo_make.proofs.Steps.{left-again}
 use Rattle.demo_make.proofs.generator.Generator.send_again.Goals as goal
 
-abbrev packet_of : ℕ → List CmdBlock → StepsPacket
+abbrev packet_of : ℕ → List CmdBlock → MovesPacket
 packet_of seq cmds = record { seq = seq; cmds = cmds }
 
 pub write_packet-requires : goal.write_packet-requires
@@ -22,7 +22,7 @@ write_packet-requires c =
     let number : frame + 1 ≡ g.opened = omega (arith, g.moves_of_open, c.requires.some) in
     let cmds : c.last_commands.result ≡ last_commands g.seed g.players frame port =
     c.last_commands.ensures ∙ commands-are g.seed g.players frame port c.draw.result c.draw.ensures.words in
-    rw cmds (subst (λ seq. IsAllowedSteps (packet_of seq (last_commands g.seed g.players frame port))) number (steps-allowed g.seed g.players frame port))
+    rw cmds (subst (λ seq. IsAllowedMoves (packet_of seq (last_commands g.seed g.players frame port))) number (steps-allowed g.seed g.players frame port))
 
 pub returns : goal.returns
 returns c =
@@ -32,10 +32,10 @@ returns c =
     let number : g.opened ≡ frame + 1 = omega (arith, g.moves_of_open, c.requires.some) in
     let cmds : c.last_commands.result ≡ last_commands g.seed g.players frame port =
     c.last_commands.ensures ∙ commands-are g.seed g.players frame port c.draw.result c.draw.ensures.words in
-    let bytes : c.write_packet.result ≡ spelling (Steps (repeat_of g.seed g.players frame port)) =
+    let bytes : c.write_packet.result ≡ spelling (Moves (repeat_of g.seed g.players frame port)) =
     c.write_packet.ensures.spelled
-    ∙ ap (λ commands. spelling (Steps (packet_of g.opened commands))) cmds
-    ∙ ap (λ seq. spelling (Steps (packet_of seq (last_commands g.seed g.players frame port)))) number in
+    ∙ ap (λ commands. spelling (Moves (packet_of g.opened commands))) cmds
+    ∙ ap (λ seq. spelling (Moves (packet_of seq (last_commands g.seed g.players frame port)))) number in
     let whole : remaining_events g ≡ events.From (repeat_from g.seed g.players frame port) ∷ remaining_events c.draw.new.self =
     left-again (progress_of g) c.requires.sending c.requires.no_join c.requires.some g.few_moves c.requires.comes
     ∙ ap (λ p. events.From (repeat_from g.seed g.players frame port) ∷ left_of p) (sym c.draw.ensures.moves) in

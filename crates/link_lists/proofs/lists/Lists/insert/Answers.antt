@@ -2,7 +2,7 @@ use Rattle.std.proofs.Common.{◌≡◌, Some, set, length, sym, ap, subst, arit
 use Rattle.std.proofs.lemmas.Grind.{common_steps}
 use Rattle.std.proofs.lemmas.List.{with_items_is}
 use Rattle.std.specs.Vec.{with_items}
-use Rattle.link_lists.specs.Pool.{ListsView, inserted, IsProper, SetsOnly}
+use Rattle.link_lists.specs.Pool.{ListsView, lists_after_insert, IsProper, SetsOnly}
 use Rattle.link_lists.specs.Links.{link_at, with_link, IsLinkedAs}
 use Rattle.link_lists.proofs.Pools.{where_of-inserted}
 use Rattle.link_lists.proofs.Walks.{pool_of-linked, IsLinkedAs-itself}
@@ -23,7 +23,7 @@ linked : (c : After-index_mut-3) → IsLinkedAs
     (set c.self.inside.next.items c.from-index.result c.index-first.result.now)
     (with_items c.self.inside.prev c.link_back.new.prev).items
     (set c.self.inside.places.items c.from-index.result (Some c.args.list))
-    (inserted c.args.self.now c.args.list c.args.id)
+    (lists_after_insert c.args.self.now c.args.list c.args.id)
 linked c =
     let old = subst (IsLinkedAs _ _ _ _) c.self.view_is c.self.invariant in
     let count = old.list_count in

@@ -2,7 +2,7 @@ use Rattle.std.proofs.Common.{◌≡◌, Some, None, set, length, sym, ap, ◌�
 use Rattle.std.proofs.lemmas.Grind.{common_steps}
 use Rattle.std.proofs.lemmas.List.{with_items_is}
 use Rattle.std.specs.Vec.{with_item, with_items}
-use Rattle.link_lists.specs.Pool.{ListsView, removed, IsProper, SetsOnly}
+use Rattle.link_lists.specs.Pool.{ListsView, lists_after_remove, IsProper, SetsOnly}
 use Rattle.link_lists.specs.Links.{link_at, with_link, IsLinkedAs}
 use Rattle.link_lists.proofs.Pools.{where_of-removed}
 use Rattle.link_lists.proofs.Walks.{pool_of-linked, IsLinkedAs-itself}
@@ -31,7 +31,7 @@ linked-in-Some : (c : After-index_mut-in-Some) → IsLinkedAs
     (set (set c.self.inside.next.items c.from-index.result c.take-after.new.self) c.from.result c.take-after.result)
     (with_items (with_item c.self.inside.prev c.from-index.result c.take-before.new.self) c.link_back.new.prev).items
     (set c.self.inside.places.items c.from-index.result c.take.new.self)
-    (removed c.args.self.now c.args.id)
+    (lists_after_remove c.args.self.now c.args.id)
 linked-in-Some c =
     let old = subst (IsLinkedAs _ _ _ _) c.self.view_is c.self.invariant in
     let place : link_at c.self.inside.places.items c.args.id ≡ Some c.unwrap-list.result = grind (arith, common_steps) in
@@ -50,7 +50,7 @@ linked-in-None : (c : After-index_mut-in-None) → IsLinkedAs
     (set c.self.inside.next.items c.from-index.result c.take-after.new.self)
     (with_items (with_item c.self.inside.prev c.from-index.result c.take-before.new.self) c.link_back.new.prev).items
     (set c.self.inside.places.items c.from-index.result c.take.new.self)
-    (removed c.args.self.now c.args.id)
+    (lists_after_remove c.args.self.now c.args.id)
 linked-in-None c =
     let old = subst (IsLinkedAs _ _ _ _) c.self.view_is c.self.invariant in
     let place : link_at c.self.inside.places.items c.args.id ≡ Some c.unwrap-list.result = grind (arith, common_steps) in

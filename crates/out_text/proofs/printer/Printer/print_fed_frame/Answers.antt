@@ -1,5 +1,5 @@
 use Rattle.std.proofs.Common.{◌++◌, [], ◌∷◌, map}
-use Rattle.out_text.specs.OutLines.{FrameLine, printed, text_of}
+use Rattle.out_text.specs.OutLines.{FrameLine, printed_line, text_of}
 use Rattle.out_text.specs.FrameLines.{answer_lines}
 use Rattle.out_text.specs.Feeds.{from_line}
 use Rattle.out_text.proofs.Buffering.{begins_printing, prints_more, prints_last, fails_at, fails_last, has_room, text_of-three, on_err, not_failed}
@@ -7,7 +7,7 @@ use Rattle.out_text.proofs.printer.Printer.print_fed_frame.Goals as goal
 
 pub returns-in_err-print-clause-err : goal.returns-in_err-print-clause-err
 returns-in_err-print-clause-err g c =
-    let first = printed (FrameLine c.args.frame) in
+    let first = printed_line (FrameLine c.args.frame) in
     let froms = map from_line c.args.arrivals.now in
     let lines = answer_lines c.args.received.now.lists c.args.journal.now c.args.slots.now c.args.replies.now in
     let middle = text_of froms in
@@ -18,7 +18,7 @@ returns-in_err-print-clause-err g c =
 
 pub returns-in_err-print-clause-sure : goal.returns-in_err-print-clause-sure
 returns-in_err-print-clause-sure g c =
-    let first = printed (FrameLine c.args.frame) in
+    let first = printed_line (FrameLine c.args.frame) in
     let froms = map from_line c.args.arrivals.now in
     let lines = answer_lines c.args.received.now.lists c.args.journal.now c.args.slots.now c.args.replies.now in
     let middle = text_of froms in
@@ -29,7 +29,7 @@ returns-in_err-print-clause-sure g c =
 
 pub returns-in_err-print_froms-clause-err : goal.returns-in_err-print_froms-clause-err
 returns-in_err-print_froms-clause-err g c =
-    let first = printed (FrameLine c.args.frame) in
+    let first = printed_line (FrameLine c.args.frame) in
     let froms = map from_line c.args.arrivals.now in
     let lines = answer_lines c.args.received.now.lists c.args.journal.now c.args.slots.now c.args.replies.now in
     let middle = text_of froms in
@@ -41,7 +41,7 @@ returns-in_err-print_froms-clause-err g c =
 
 pub returns-in_err-print_froms-clause-sure : goal.returns-in_err-print_froms-clause-sure
 returns-in_err-print_froms-clause-sure g c =
-    let first = printed (FrameLine c.args.frame) in
+    let first = printed_line (FrameLine c.args.frame) in
     let froms = map from_line c.args.arrivals.now in
     let lines = answer_lines c.args.received.now.lists c.args.journal.now c.args.slots.now c.args.replies.now in
     let middle = text_of froms in
@@ -53,7 +53,7 @@ returns-in_err-print_froms-clause-sure g c =
 
 pub returns-clause-ok : goal.returns-clause-ok
 returns-clause-ok g c =
-    let first = printed (FrameLine c.args.frame) in
+    let first = printed_line (FrameLine c.args.frame) in
     let froms = map from_line c.args.arrivals.now in
     let lines = answer_lines c.args.received.now.lists c.args.journal.now c.args.slots.now c.args.replies.now in
     let middle = text_of froms in
@@ -66,7 +66,7 @@ returns-clause-ok g c =
 
 pub returns-clause-err : goal.returns-clause-err
 returns-clause-err g c =
-    let first = printed (FrameLine c.args.frame) in
+    let first = printed_line (FrameLine c.args.frame) in
     let froms = map from_line c.args.arrivals.now in
     let lines = answer_lines c.args.received.now.lists c.args.journal.now c.args.slots.now c.args.replies.now in
     let middle = text_of froms in
@@ -79,7 +79,7 @@ returns-clause-err g c =
 
 pub returns-clause-sure : goal.returns-clause-sure
 returns-clause-sure g c =
-    let first = printed (FrameLine c.args.frame) in
+    let first = printed_line (FrameLine c.args.frame) in
     let froms = map from_line c.args.arrivals.now in
     let lines = answer_lines c.args.received.now.lists c.args.journal.now c.args.slots.now c.args.replies.now in
     let middle = text_of froms in

@@ -1,12 +1,12 @@
 use Rattle.std.proofs.Common.{◌++◌, [], ◌∷◌}
-use Rattle.out_text.specs.OutLines.{FrameLine, printed, text_of}
+use Rattle.out_text.specs.OutLines.{FrameLine, printed_line, text_of}
 use Rattle.out_text.specs.FrameLines.{answer_lines}
 use Rattle.out_text.proofs.Buffering.{begins_printing, prints_more, prints_last, fails_at, fails_last, has_room, text_of-two, on_err, not_failed}
 use Rattle.out_text.proofs.printer.Printer.print_frame.Goals as goal
 
 pub returns-in_err-print-clause-err : goal.returns-in_err-print-clause-err
 returns-in_err-print-clause-err g c =
-    let first = printed (FrameLine c.args.frame) in
+    let first = printed_line (FrameLine c.args.frame) in
     let lines = answer_lines c.args.received.now.lists c.args.journal.now c.args.slots.now c.args.replies.now in
     let rest = text_of lines in
     let all = text_of (FrameLine c.args.frame ∷ lines) in
@@ -15,7 +15,7 @@ returns-in_err-print-clause-err g c =
 
 pub returns-in_err-print-clause-sure : goal.returns-in_err-print-clause-sure
 returns-in_err-print-clause-sure g c =
-    let first = printed (FrameLine c.args.frame) in
+    let first = printed_line (FrameLine c.args.frame) in
     let lines = answer_lines c.args.received.now.lists c.args.journal.now c.args.slots.now c.args.replies.now in
     let rest = text_of lines in
     let all = text_of (FrameLine c.args.frame ∷ lines) in
@@ -24,7 +24,7 @@ returns-in_err-print-clause-sure g c =
 
 pub returns-clause-ok : goal.returns-clause-ok
 returns-clause-ok g c =
-    let first = printed (FrameLine c.args.frame) in
+    let first = printed_line (FrameLine c.args.frame) in
     let lines = answer_lines c.args.received.now.lists c.args.journal.now c.args.slots.now c.args.replies.now in
     let rest = text_of lines in
     let all = text_of (FrameLine c.args.frame ∷ lines) in
@@ -34,7 +34,7 @@ returns-clause-ok g c =
 
 pub returns-clause-err : goal.returns-clause-err
 returns-clause-err g c =
-    let first = printed (FrameLine c.args.frame) in
+    let first = printed_line (FrameLine c.args.frame) in
     let lines = answer_lines c.args.received.now.lists c.args.journal.now c.args.slots.now c.args.replies.now in
     let rest = text_of lines in
     let all = text_of (FrameLine c.args.frame ∷ lines) in
@@ -44,7 +44,7 @@ returns-clause-err g c =
 
 pub returns-clause-sure : goal.returns-clause-sure
 returns-clause-sure g c =
-    let first = printed (FrameLine c.args.frame) in
+    let first = printed_line (FrameLine c.args.frame) in
     let lines = answer_lines c.args.received.now.lists c.args.journal.now c.args.slots.now c.args.replies.now in
     let rest = text_of lines in
     let all = text_of (FrameLine c.args.frame ∷ lines) in

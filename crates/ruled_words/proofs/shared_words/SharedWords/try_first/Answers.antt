@@ -2,7 +2,7 @@ use Rattle.std.proofs.Common.{◌∙◌, ◌+◌, ◌==◌, ℕ, if◌then◌els
 use Rattle.core_steps.specs.declared.sizes.TheConstants.{NODE_HOLDERS}
 use Rattle.core_steps.specs.Steps.{view_after_claim}
 use Rattle.ruled_words.specs.Passes.{PassView, fixed_in}
-use Rattle.ruled_words.specs.Hands.{keeping}
+use Rattle.ruled_words.specs.Hands.{pass_keeping}
 use Rattle.ruled_words.proofs.Owns.{resolved_own}
 use Rattle.ruled_words.proofs.PlainHands.{comes_next, index_next}
 use Rattle.ruled_words.proofs.Claims.{dropped_own, first_is, first_left, first_tried, first_view, refusals_found}
@@ -12,12 +12,12 @@ pub step_resolved-found-requires-clause-own : goal.step_resolved-found-requires-
 step_resolved-found-requires-clause-own g c κs within = resolved_own (fixed_in g.A.Action.meaning c.args.self.now) (length c.args.self.now.rooms) c.args.self.now.table c.args.hand.now c.args.effect.now c.requires.own c.requires.at c.requires.effect
 
 pub step_resolved-found-requires-clause-comes : goal.step_resolved-found-requires-clause-comes
-step_resolved-found-requires-clause-comes g c κs within = comes_next (fixed_in g.A.Action.meaning c.args.self.now) (keeping c.args.hand.now c.args.effect.now) _ (first_is (fixed_in g.A.Action.meaning c.args.self.now) c.args.hand.now c.args.effect.now c.args.node c.is_plain.ensures c.requires.at c.requires.next)
+step_resolved-found-requires-clause-comes g c κs within = comes_next (fixed_in g.A.Action.meaning c.args.self.now) (pass_keeping c.args.hand.now c.args.effect.now) _ (first_is (fixed_in g.A.Action.meaning c.args.self.now) c.args.hand.now c.args.effect.now c.args.node c.is_plain.ensures c.requires.at c.requires.next)
 
 pub step_resolved-found-requires-clause-index : goal.step_resolved-found-requires-clause-index
 step_resolved-found-requires-clause-index g c κs within =
     c.from-word.ensures ∙ c.node_word.ensures
-    ∙ index_next (fixed_in g.A.Action.meaning c.args.self.now) (keeping c.args.hand.now c.args.effect.now) _ (first_is (fixed_in g.A.Action.meaning c.args.self.now) c.args.hand.now c.args.effect.now c.args.node c.is_plain.ensures c.requires.at c.requires.next) c.args.hand.now.view
+    ∙ index_next (fixed_in g.A.Action.meaning c.args.self.now) (pass_keeping c.args.hand.now c.args.effect.now) _ (first_is (fixed_in g.A.Action.meaning c.args.self.now) c.args.hand.now c.args.effect.now c.args.node c.is_plain.ensures c.requires.at c.requires.next) c.args.hand.now.view
 
 pub step_resolved-found-requires-clause-left : goal.step_resolved-found-requires-clause-left
 step_resolved-found-requires-clause-left g c κs within found =

@@ -2,7 +2,7 @@ use Rattle.std.proofs.Common.{◌≡◌, sym, ap, ◌∙◌, arith}
 use Rattle.std.specs.Option.{option_to_list}
 use Rattle.std.proofs.lemmas.List.{length-map}
 use Rattle.world_tree.specs.Live.{record_at, live_in}
-use Rattle.transcript_check.specs.Reading.{counted}
+use Rattle.transcript_check.specs.Reading.{count_after}
 use Rattle.out_text.specs.FrameLines.{to_line, to_lines}
 use Rattle.transcript_check.proofs.Replies.{replies-next, replies-none, replies-all}
 use Rattle.transcript_check.proofs.ReadingOn.{some-first, some-next, some-missed, some-looked, some-all, some-count}
@@ -29,7 +29,7 @@ loop-slot-preserved g c =
     let reads = rw c.if-not-branch.false at c.in_ok-expect_reply.ensures.ok in
     let counts = rw c.if-not-branch.false at c.in_ok-expect_reply.ensures.count in
     some-next g.S.Source c.args.source.now c.loop-slot.source c.expect_reply.new.source c.args.reader.now c.loop-slot.reader c.expect_reply.new.reader _ _ _ _ _ _ (rw here at c.loop-slot.invariant) reads
-    (counts ∙ ap (counted c.loop-slot.self.count) (sym (length-map (option_to_list (record_at records c.loop-slot.slot)) f)))
+    (counts ∙ ap (count_after c.loop-slot.self.count) (sym (length-map (option_to_list (record_at records c.loop-slot.slot)) f)))
 
 pub returns-clause-ok : goal.returns-clause-ok
 returns-clause-ok g c =

@@ -7,7 +7,7 @@ use Rattle.world_tree.specs.Worlds.{record_of}
 use Rattle.out_text.specs.FrameLines.{to_line}
 use Rattle.out_text.specs.OutLines.{text_of}
 use Rattle.out_text.specs.Transcripts.{BeginsWith}
-use Rattle.transcript_check.specs.Reading.{counted, ReadsLines, Misses}
+use Rattle.transcript_check.specs.Reading.{count_after, ReadsLines, Misses}
 use Rattle.transcript_check.proofs.Replies.{reply-wanted}
 use Rattle.transcript_check.proofs.Texts.{ok_false-weaker}
 use Rattle.transcript_check.proofs.ReadingOn.{misses-one}
@@ -16,7 +16,7 @@ use Rattle.transcript_check.proofs.lines.Lines.expect_reply.Goals as goal
 pub returns-in_default-clause-count : goal.returns-in_default-clause-count
 returns-in_default-clause-count g c =
     let none : record_of c.args.world.now c.args.slot ≡ None = ap (record_of c.args.world.now) (sym c.from.ensures) ∙ sym c.get.ensures.record ∙ c.in_default.is in
-    ap (λ (o : Option Rec). counted c.args.self.now.count (length (option_to_list o))) (sym none)
+    ap (λ (o : Option Rec). count_after c.args.self.now.count (length (option_to_list o))) (sym none)
 
 pub returns-clause-ok : goal.returns-clause-ok
 returns-clause-ok g c =

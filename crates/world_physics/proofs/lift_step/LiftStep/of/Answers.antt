@@ -3,8 +3,8 @@ use Rattle.std.proofs.lemmas.Int.{to_z-of_z}
 use Rattle.world_physics.proofs.Ways.{way_fits, step-is}
 use Rattle.world_physics.proofs.lift_step.LiftStep.of.Goals as goal
 
-pub raised-requires : goal.raised-requires
-raised-requires c =
+pub record_raised_by-requires : goal.record_raised_by-requires
+record_raised_by-requires c =
     let fit = way_fits c.args.lift.now c.args.r.now c.requires in
     let P : ℤ → Type 0 = λ up. SFits w32 (c.args.r.now.origin.z +ℤ up) in
     let Q : ℤ → Type 0 = SFits w32 in
@@ -16,5 +16,5 @@ returns c =
     let fit = way_fits c.args.lift.now c.args.r.now c.requires in
     let Q : ℤ → Type 0 = SFits w32 in
     let up : SFits w32 c.distance_up-up.result = subst Q (sym c.distance_up-up.ensures) fit.up in
-    step-is c.args.lift.now c.args.r.now c.raised.result c.distance_up-up.result _ c.next_state.result (to_z-of_z w32 c.distance_up-up.result up) c.distance_up-up.ensures
-    c.raised.ensures c.next_state.ensures
+    step-is c.args.lift.now c.args.r.now c.record_raised_by.result c.distance_up-up.result _ c.next_state.result (to_z-of_z w32 c.distance_up-up.result up) c.distance_up-up.ensures
+    c.record_raised_by.ensures c.next_state.ensures

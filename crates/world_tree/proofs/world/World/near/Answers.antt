@@ -14,5 +14,5 @@ pub returns-clause-records : goal.returns-clause-records
 returns-clause-records c =
     c.gather.ensures ∙ ap (λ (rs : List Rec). record { items = rs; room = c.args.out.now.room })
     (near-is (world_of c.self.inside.tree c.self.inside.records.items c.self.inside.lists) c.self.invariant.linked c.args.r.now c.leaves_of.ensures.region c.args.except
-    _ _ _ _ _ _ _ _ c.leaves_of.ensures.leaves c.visited-nodes.ensures.nodes c.nodes.ensures.value (c.deref.ensures.value ∙ c.self.invariant.boxes_are) c.touched_at-marks.ensures c.unmark.ensures c.deref-2.ensures.value refl
+    _ _ _ _ _ _ _ _ c.leaves_of.ensures.leaves c.visited_nodes-nodes.ensures.nodes c.nodes.ensures.value (c.deref.ensures.value ∙ c.self.invariant.boxes_are) c.touched_at-marks.ensures c.unmark.ensures c.deref-2.ensures.value refl
     ∙ ap (λ w. near_in w.records c.args.r.now c.args.except) c.self.view_is)

@@ -1,6 +1,0 @@
-use Rattle.demo_make.specs.ResentFrames.{resent_events}
-use Rattle.demo_make.proofs.generator.Generator.resending.Goals as goal
-
-pub returns : goal.returns
-unfolding resent_events
-returns c = c.at_start.ensures

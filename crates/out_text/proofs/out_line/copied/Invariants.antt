@@ -1,6 +1,0 @@
-use Rattle.std.proofs.Common.{◌≡◌, take}
-use Rattle.out_text.proofs.out_line.copied.Given as goal
-
--- the ids so far
-abbrev pub invariant-loop-id : goal.invariant-loop-id
-invariant-loop-id l = l.copy ≡ take l.id-index l.id-items
