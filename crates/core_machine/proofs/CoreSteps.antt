@@ -11,7 +11,9 @@ use Rattle.core_steps.specs.declared.step.StepKind.TheVariants.{Take, Commit}
 use Rattle.areanode.specs.Trees.{IsTreeDepth}
 use Rattle.core_steps.specs.declared.sizes.TheConstants.{TABLE_NODES}
 use Rattle.core_steps.specs.Cells as cells
-use Rattle.core_steps.specs.Views.{Fixed, Store, Clear, Put, Link, View}
+use Rattle.core_steps.specs.Nodes.{Fixed}
+use Rattle.core_steps.specs.Points.{Store, Clear, Put, Link}
+use Rattle.core_steps.specs.Reads.{View}
 use Rattle.core_steps.specs.Steps.{refuse_node, is_taking}
 use Rattle.core_steps.specs.Stands.{IsLawful, IsStart, start_words}
 use Rattle.core_steps.specs.Machine.{Machine, Next, Begin, LoadOwn, LoadAgain, TakeNode, ClaimNode, ReadList, ReadPlayer, ReadState, CommitMove, StoreWord, GiveNode, YieldNode, YieldCount, kind_of_store, next_of, next_step_of, step_of, kind_of, index_of, word_of_next, machine_after, items_after, MachineStands}

@@ -12,7 +12,9 @@ use Rattle.entity_recs.specs.Worlds.{World}
 use Rattle.entity_recs.specs.Histories.{Item}
 use Rattle.core_steps.specs.Cells as cells
 use Rattle.core_steps.specs.Cells.{put}
-use Rattle.core_steps.specs.Views.{Fixed, Point, Resolving, View, effect_loaded}
+use Rattle.core_steps.specs.Nodes.{Fixed}
+use Rattle.core_steps.specs.Points.{Point, Resolving}
+use Rattle.core_steps.specs.Reads.{View, effect_loaded}
 use Rattle.areanode.specs.Trees.{IsTreeDepth}
 use Rattle.core_steps.specs.Steps.{Core, first_yield, is_taking}
 use Rattle.core_steps.specs.Stands.{IsLawful, IsStart, start_words}

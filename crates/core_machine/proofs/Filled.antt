@@ -1,7 +1,9 @@
 -- A machine at its start, to whose seats commands are given one after another.
 use Rattle.std.proofs.Common.{◌≡◌, ℕ, zero, suc, ◌<◌, ◌≤◌, true, List, [], ◌∷◌, length, map, get_or, refl, sym, ap, ◌∙◌, subst, Some, None, arith}
 use Rattle.entity_recs.specs.Commands.{Command}
-use Rattle.core_steps.specs.Views.{Fixed, Idle, View}
+use Rattle.core_steps.specs.Nodes.{Fixed}
+use Rattle.core_steps.specs.Points.{Idle}
+use Rattle.core_steps.specs.Reads.{View}
 use Rattle.core_steps.specs.Machine.{Machine}
 use Rattle.core_steps.specs.Calls.{start_machine}
 use Rattle.core_steps.proofs.Reached.{idle_at_start}

@@ -4,7 +4,12 @@ use Rattle.entity_recs.specs.declared.effect.Effect.{Effect}
 use Rattle.entity_recs.specs.Commands.{Command}
 use Rattle.core_steps.specs.declared.sizes.TheConstants.{NODE_HOLDERS}
 use Rattle.core_steps.specs.declared.step.StepKind.TheVariants.{Take}
-use Rattle.core_steps.specs.Views.{Fixed, View, Store, Clear, Put, Link, Point, Idle, Owning, Taking, Checking, Entering, Entered, Loading, Leaving, Sensing, Resolving, Claiming, Storing, Releasing, Returning, Yielding, stage_of, is_whole, is_writing, is_leaf, leaf_word, record_read, write_nodes, stores_owed}
+use Rattle.core_steps.specs.Nodes.{Fixed, is_leaf, write_nodes}
+use Rattle.core_steps.specs.Points.{Store, Clear, Put, Link, Point, Idle, Owning, Taking, Checking, Entering, Entered}
+use Rattle.core_steps.specs.Points.{Loading, Leaving, Sensing, Resolving, Claiming, Storing, Releasing, Returning}
+use Rattle.core_steps.specs.Points.{Yielding, stage_of, is_whole, is_writing, stores_owed}
+use Rattle.core_steps.specs.Reads.{View, record_read}
+use Rattle.core_steps.specs.Held.{leaf_word}
 use Rattle.core_steps.specs.Steps.{point_after_take, taking, next_give, first_yield}
 use Rattle.core_steps.specs.Machine.{Next, Begin, LoadOwn, LoadAgain, TakeNode, ClaimNode, ReadList, ReadPlayer, ReadState, CommitMove, StoreWord, GiveNode, beginning, committing, giving, quitting, resolving, kind_of, index_of}
 use Rattle.core_seats.specs.Going.{word_left}

@@ -2,7 +2,7 @@
 use Rattle.std.proofs.Common.{◌≡◌, ℕ, ◌<◌, ◌≤◌, List, length, get_or, set, All, sym, subst, arith}
 use Rattle.std.proofs.lemmas.List.Elements.{All-get_or, All-set}
 use Rattle.entity_recs.specs.declared.limits.TheConstants.{IDS}
-use Rattle.core_steps.specs.Views.{Fixed}
+use Rattle.core_steps.specs.Nodes.{Fixed}
 use Rattle.core_seats.specs.declared.seat.Seat.{Seat}
 use Rattle.core_seats.specs.Seats.{things_room}
 use Rattle.core_seats.proofs.NearLists.{few_ids}

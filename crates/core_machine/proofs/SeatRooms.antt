@@ -5,7 +5,8 @@ use Rattle.std.proofs.lemmas.Bool.{cases_Bool}
 use Rattle.std.proofs.lemmas.List.Sorted.{length_permutation}
 use Rattle.entity_recs.specs.Histories.{Item}
 use Rattle.entity_recs.specs.Worlds.{World}
-use Rattle.core_steps.specs.Views.{Fixed, Ended}
+use Rattle.core_steps.specs.Nodes.{Fixed}
+use Rattle.core_steps.specs.Reads.{Ended}
 use Rattle.core_steps.specs.Steps.{Core}
 use Rattle.core_steps.specs.Stands.{ended_log, log_of, items_of, Stands}
 use Rattle.core_steps.specs.Machine.{Next, core_after}

@@ -7,7 +7,7 @@ use Rattle.std.proofs.Math.Bool.{and-false}
 use Rattle.entity_recs.specs.declared.rec.Rec.{Rec}
 use Rattle.entity_recs.specs.Worlds.{record_with, nobody}
 use Rattle.core_steps.specs.Cells.{Words}
-use Rattle.core_steps.specs.Views.{Fixed, has, home}
+use Rattle.core_steps.specs.Nodes.{Fixed, has, home}
 use Rattle.core_steps.specs.Stands.{is_player}
 use Rattle.core_seats.specs.Starts.{record_at}
 use Rattle.core_machine.specs.Tables.{within, rows}

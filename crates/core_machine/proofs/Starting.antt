@@ -8,7 +8,8 @@ use Rattle.std.proofs.lemmas.List.{map_more, map-append}
 use Rattle.std.proofs.Math.Seq.{take-length}
 use Rattle.std.proofs.lemmas.Bool.{cases_Bool, cond-true, cond-false, eqb-true, eqb-false, ne_eqb, eq-eqb}
 use Rattle.core_steps.specs.Cells.{put}
-use Rattle.core_steps.specs.Views.{Fixed, View, new_view, spent}
+use Rattle.core_steps.specs.Nodes.{Fixed}
+use Rattle.core_steps.specs.Reads.{View, new_view, spent}
 use Rattle.core_steps.specs.Steps.{Core, make_seat}
 use Rattle.core_steps.specs.Stands.{IsLawful, start_words, start_core}
 use Rattle.core_steps.specs.Calls.{StandsSomehow, with_seats, start_machine}

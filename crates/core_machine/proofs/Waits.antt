@@ -10,7 +10,10 @@ use Rattle.entity_recs.specs.Histories.{Item}
 use Rattle.core_steps.specs.declared.step.StepKind.{StepKind}
 use Rattle.core_steps.specs.declared.step.StepKind.TheVariants.{Take}
 use Rattle.core_steps.specs.Cells.{Words, put}
-use Rattle.core_steps.specs.Views.{Fixed, Store, Clear, Put, Link, Idle, View, holds}
+use Rattle.core_steps.specs.Nodes.{Fixed}
+use Rattle.core_steps.specs.Points.{Store, Clear, Put, Link, Idle}
+use Rattle.core_steps.specs.Reads.{View}
+use Rattle.core_steps.specs.Held.{holds}
 use Rattle.core_steps.specs.Steps.{Core, first_yield, refuse_node, is_taking, view_after_refusal}
 use Rattle.core_steps.specs.Machine.{Machine, Next, Begin, LoadOwn, LoadAgain, TakeNode, ClaimNode, ReadList, ReadPlayer, ReadState, CommitMove, StoreWord, GiveNode, YieldNode, YieldCount, next_at, next_of, quitting, beginning, kind_of, kind_of_store, word_of_next, core_after, machine_after, MachineStands}
 use Rattle.core_steps.specs.Calls.{node_taken, IsWaiting}

@@ -5,7 +5,8 @@ use Rattle.std.specs.Prelude.{◌==◌}
 use Rattle.std.proofs.lemmas.Bool.{cases_Bool, cond-true, cond-false, lt-ltb, le-ltb, eqb-true}
 use Rattle.core_steps.specs.declared.sizes.TheConstants.{TABLE_NODES}
 use Rattle.core_steps.specs.Cells.{Words, Cell, Body, State, put, word_in, with_word, cell_index, cell_of, node_index, links_index, body_index, state_index}
-use Rattle.core_steps.specs.Views.{Fixed, Store, Clear, Put, Link}
+use Rattle.core_steps.specs.Nodes.{Fixed}
+use Rattle.core_steps.specs.Points.{Store, Clear, Put, Link}
 use Rattle.core_steps.specs.Steps.{Core, words_after_store}
 use Rattle.core_steps.specs.Machine.{Next, Begin, LoadOwn, LoadAgain, TakeNode, ClaimNode, ReadList, ReadPlayer, ReadState, CommitMove, StoreWord, GiveNode, YieldNode, YieldCount, core_after, index_of, index_of_store, word_of_next, word_of_store}
 use Rattle.core_steps.proofs.TableWords.{CellIsIn, StoreIsIn, NextIsIn}

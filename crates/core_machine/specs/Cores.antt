@@ -4,7 +4,8 @@ use Rattle.std.specs.Prelude.{Option, Some, None}
 use Rattle.entity_recs.specs.Commands.{Command}
 use Rattle.core_steps.specs.declared.step.Step.{Step}
 use Rattle.core_steps.specs.declared.sizes.TheConstants.{MOST_SEATS}
-use Rattle.core_steps.specs.Views.{Fixed, View, new_view, spent}
+use Rattle.core_steps.specs.Nodes.{Fixed}
+use Rattle.core_steps.specs.Reads.{View, new_view, spent}
 use Rattle.core_steps.specs.Stands.{IsLawful, start_words}
 use Rattle.core_steps.specs.Machine.{Machine, Next, next_of, next_step_of}
 use Rattle.core_steps.specs.Calls.{StandsSomehow, IsWaiting, node_taken}

@@ -6,9 +6,12 @@ use Rattle.areanode.specs.declared.sizes.TheConstants.{MOST_NODES}
 use Rattle.core_steps.specs.declared.sizes.TheConstants.{TABLE_NODES, NODE_HOLDERS}
 use Rattle.core_steps.specs.declared.step.StepKind.{StepKind}
 use Rattle.core_steps.specs.declared.step.StepKind.TheVariants.{Take, GiveBack, Commit, Bit, Store}
-use Rattle.core_steps.specs.Views as views
-use Rattle.core_steps.specs.Views.{Fixed, View, Point, Resolving, Claiming, stage_of, is_storing, stores_owed}
-use Rattle.core_steps.specs.Views.{is_leaf, leaf_word, nodes_of}
+use Rattle.core_steps.specs.Points as core_points
+use Rattle.core_steps.specs.Nodes.{Fixed}
+use Rattle.core_steps.specs.Points.{Point, Resolving, Claiming, stage_of, is_storing, stores_owed}
+use Rattle.core_steps.specs.Reads.{View}
+use Rattle.core_steps.specs.Nodes.{is_leaf, nodes_of}
+use Rattle.core_steps.specs.Held.{leaf_word}
 use Rattle.core_seats.specs.Going.{word_stored}
 
 -- the word of the table is that of a node
@@ -29,7 +32,7 @@ word_taken F i view index =
     else (if takes_to_write view.point then 1 else 0)))
 
 -- the word after the first of these stores by the player of this slot, where this word was found
-abbrev pub first_stored : ℕ → List views.Store → ℕ → ℕ
+abbrev pub first_stored : ℕ → List core_points.Store → ℕ → ℕ
 first_stored slot [] found = found
 first_stored slot (store ∷ stores) found = word_stored slot store found
 

@@ -1,7 +1,7 @@
 ghost use Rattle.std.specs.Prelude.{◌≡◌, ◌<◌, true};
 ghost use Rattle.entity_recs.specs.Actions.{IsCommand};
 ghost use Rattle.core_steps.specs.Cells.{with_bit, without_bit};
-ghost use Rattle.core_steps.specs.Views.{stage_of, is_storing, stores_owed};
+ghost use Rattle.core_steps.specs.Points.{stage_of, is_storing, stores_owed};
 ghost use Rattle.core_seats.specs.Going as going;
 ghost use Rattle.core_seats.specs.Points.{store_of};
 ghost use Rattle.core_seats.specs.Seats.{view_of};

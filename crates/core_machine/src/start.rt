@@ -1,6 +1,6 @@
 ghost use Rattle.std.specs.Prelude.{◌≡◌, ℕ, ◌<◌, ◌==◌, ◌&&◌, [], slice_index_or};
 ghost use Rattle.core_steps.specs.Encoding.{words_of};
-ghost use Rattle.core_steps.specs.Views.{home};
+ghost use Rattle.core_steps.specs.Nodes.{home};
 ghost use Rattle.core_steps.specs.Stands.{is_player, start_words};
 ghost use Rattle.core_seats.specs.Shown.{fixed_of};
 

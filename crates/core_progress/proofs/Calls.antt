@@ -10,7 +10,8 @@ use Rattle.entity_recs.specs.Commands.{Command}
 use Rattle.entity_recs.specs.Worlds.{World}
 use Rattle.entity_recs.specs.Histories.{Item}
 use Rattle.core_steps.specs.Cells.{put}
-use Rattle.core_steps.specs.Views.{Fixed, stage_of, is_busy}
+use Rattle.core_steps.specs.Nodes.{Fixed}
+use Rattle.core_steps.specs.Points.{stage_of, is_busy}
 use Rattle.core_steps.specs.Stands.{IsLawful, IsStart}
 use Rattle.core_steps.specs.Machine.{Machine, Next, next_of, word_of_next, machine_after, MachineStands}
 use Rattle.core_steps.specs.Calls.{Call, Give, Go, GiveUp, gone_on, with_given, after_call, after_calls, has_command, MayBeGiven, MayBeCalled, MayAllBeCalled, StandsSomehow}

@@ -13,7 +13,9 @@ use Rattle.entity_recs.specs.Actions.{is_of_one_inside}
 use Rattle.entity_recs.specs.Bodies.{abs_of}
 use Rattle.entity_recs.specs.Worlds.{World}
 use Rattle.entity_recs.specs.Histories.{Item}
-use Rattle.core_steps.specs.Views.{Fixed, Resolving, View, region_in, record_read, record_loaded, loaded_near, effect_loaded}
+use Rattle.core_steps.specs.Nodes.{Fixed}
+use Rattle.core_steps.specs.Points.{Resolving}
+use Rattle.core_steps.specs.Reads.{View, region_in, record_read, record_loaded, loaded_near, effect_loaded}
 use Rattle.core_steps.specs.Steps.{Core}
 use Rattle.core_steps.specs.Stands.{IsLawful, IsStart, Stands}
 use Rattle.core_steps.proofs.Asking.{effect_may_be_asked}

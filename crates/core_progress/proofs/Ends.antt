@@ -5,7 +5,10 @@ use Rattle.std.proofs.lemmas.Bool.{true≢false, false≢true}
 use Rattle.std.proofs.lemmas.List.{append-nil}
 use Rattle.entity_recs.specs.Commands.{Command}
 use Rattle.entity_recs.specs.Histories.{commands_of}
-use Rattle.core_steps.specs.Views.{Fixed, Stage, AtRest, AtOwning, AtTaking, AtChecking, AtReading, AtClaiming, AtStoring, AtReleasing, AtReturning, AtYielding, View, stage_of, is_busy}
+use Rattle.core_steps.specs.Nodes.{Fixed}
+use Rattle.core_steps.specs.Points.{Stage, AtRest, AtOwning, AtTaking, AtChecking, AtReading, AtClaiming, AtStoring}
+use Rattle.core_steps.specs.Points.{AtReleasing, AtReturning, AtYielding, stage_of, is_busy}
+use Rattle.core_steps.specs.Reads.{View}
 use Rattle.core_steps.specs.Calls.{start_machine, after_calls, is_pursued, pursued_of}
 use Rattle.core_steps.proofs.Reached.{machine_start_stands, idle_at_start}
 use Rattle.core_steps.proofs.Kept.{log_holds_the_commands_kept}

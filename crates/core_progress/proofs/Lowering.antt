@@ -10,7 +10,12 @@ use Rattle.entity_recs.specs.Commands.{Command}
 use Rattle.entity_recs.specs.Worlds.{World}
 use Rattle.entity_recs.specs.Histories.{Item}
 use Rattle.core_steps.specs.Cells.{put}
-use Rattle.core_steps.specs.Views.{Fixed, Point, Idle, Owning, Taking, Checking, Entering, Entered, Loading, Leaving, Sensing, Resolving, Claiming, Storing, Releasing, Returning, Yielding, View, stage_of, is_without_effect, without_player, leaf_nodes, plan_of, region_in, record_read, write_nodes, effect_loaded, inner_held, leaves_held}
+use Rattle.core_steps.specs.Nodes.{Fixed, leaf_nodes, plan_of, write_nodes}
+use Rattle.core_steps.specs.Points.{Point, Idle, Owning, Taking, Checking, Entering, Entered, Loading, Leaving, Sensing}
+use Rattle.core_steps.specs.Points.{Resolving, Claiming, Storing, Releasing, Returning, Yielding, stage_of}
+use Rattle.core_steps.specs.Points.{is_without_effect}
+use Rattle.core_steps.specs.Reads.{View, without_player, region_in, record_read, effect_loaded}
+use Rattle.core_steps.specs.Held.{inner_held, leaves_held}
 use Rattle.core_steps.specs.Steps.{rest_of, first, first_of_two, first_yield, is_taking, returning, released, yielding, yielded, visiting, loading, view_after_give}
 use Rattle.core_steps.specs.Stands.{IsLawful, IsStart}
 use Rattle.core_steps.specs.Machine.{Machine, Next, Begin, LoadOwn, LoadAgain, TakeNode, ClaimNode, ReadList, ReadPlayer, ReadState, CommitMove, StoreWord, GiveNode, YieldNode, YieldCount, next_at, next_of, quitting, resolving, beginning, committing, giving, word_of_next, machine_after, MachineStands}

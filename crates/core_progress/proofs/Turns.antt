@@ -3,7 +3,7 @@ use Rattle.std.proofs.Common.{◌≡◌, ℕ, zero, suc, ◌+◌, ◌<◌, ◌�
 use Rattle.std.specs.Prelude.{◌==◌, map}
 use Rattle.std.specs.List.{range_with_len, list_any}
 use Rattle.std.proofs.lemmas.Bool.{cases_Bool, true≢false, or_left, or_right, eq-eqb, eqb-true}
-use Rattle.core_steps.specs.Views.{Fixed}
+use Rattle.core_steps.specs.Nodes.{Fixed}
 use Rattle.core_steps.specs.Stands.{IsLawful, IsStart}
 use Rattle.core_steps.specs.Machine.{Machine, next_of}
 use Rattle.core_steps.specs.Calls.{Call, Go, after_call, after_calls, has_command, start_machine, MayAllBeCalled, StandsSomehow}

@@ -1,5 +1,8 @@
 -- When moves come to their end.
-pub use Rattle.core_steps.specs.Views
+pub use Rattle.core_steps.specs.Nodes
+pub use Rattle.core_steps.specs.Points
+pub use Rattle.core_steps.specs.Reads
+pub use Rattle.core_steps.specs.Held
 pub use Rattle.core_steps.specs.Stands
 pub use Rattle.core_steps.specs.Machine
 pub use Rattle.core_steps.specs.Calls

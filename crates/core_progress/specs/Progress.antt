@@ -6,7 +6,9 @@ use Rattle.entity_recs.specs.declared.effect.Effect.{Effect}
 use Rattle.entity_recs.specs.Commands.{Command}
 use Rattle.entity_recs.specs.Worlds.{nobody, zero_vector}
 use Rattle.core_steps.specs.Cells.{Words}
-use Rattle.core_steps.specs.Views.{Fixed, Owning, View}
+use Rattle.core_steps.specs.Nodes.{Fixed}
+use Rattle.core_steps.specs.Points.{Owning}
+use Rattle.core_steps.specs.Reads.{View}
 use Rattle.core_steps.specs.Machine.{Machine, Next, next_of, word_of_next}
 use Rattle.core_steps.specs.Calls.{Call, Give, Go, GiveUp, after_call, after_calls, has_command}
 use Rattle.core_steps.specs.Calls.{MayBeCalled, MayAllBeCalled, IsWaiting}

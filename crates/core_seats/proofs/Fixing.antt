@@ -5,7 +5,7 @@ use Rattle.std.specs.List.{range_with_len}
 use Rattle.arena_geo.specs.Bounds.{Bounds}
 use Rattle.areanode.specs.Words.{has_bit}
 use Rattle.areanode.specs.Trees.{leaf_node, leaves_of, visited_of}
-use Rattle.core_steps.specs.Views.{Fixed, leaf_nodes, inner_visited}
+use Rattle.core_steps.specs.Nodes.{Fixed, leaf_nodes, inner_visited}
 
 pub leaf_nodes_are : (F : Fixed) (region : List Bounds) (word : ℕ) (nodes : List ℕ) → word ≡ leaves_of F.tree region
     → nodes ≡ map (leaf_node F.tree.depth) (filter (has_bit word) (range_with_len 0 (2 ^ F.tree.depth))) → nodes ≡ leaf_nodes F region

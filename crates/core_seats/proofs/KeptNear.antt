@@ -11,7 +11,8 @@ use Rattle.entity_recs.specs.declared.rec.Rec.{Rec}
 use Rattle.entity_recs.specs.declared.effect.NewState.{NewState}
 use Rattle.entity_recs.specs.Bodies.{abs_of}
 use Rattle.entity_recs.specs.Records.{with_state}
-use Rattle.core_steps.specs.Views.{Fixed, PlayerRead, player_at, player_of, state_at, thing_of, record_loaded, near_loaded}
+use Rattle.core_steps.specs.Nodes.{Fixed}
+use Rattle.core_steps.specs.Reads.{PlayerRead, player_at, player_of, state_at, thing_of, record_loaded, near_loaded}
 use Rattle.core_seats.specs.NearKept.{kept_at, players_kept, things_loaded}
 
 -- the number is below all these

@@ -23,7 +23,8 @@ use Rattle.entity_recs.specs.Actions.{HasValidity}
 use Rattle.core_steps.specs.Stands.{IsStart}
 use Rattle.entity_recs.specs.Worlds.{record_with}
 use Rattle.entity_recs.proofs.Ids.{id_in}
-use Rattle.core_steps.specs.Views.{Fixed, PlayerRead, player_of, player_at, thing_of, state_at, record_loaded}
+use Rattle.core_steps.specs.Nodes.{Fixed}
+use Rattle.core_steps.specs.Reads.{PlayerRead, player_of, player_at, thing_of, state_at, record_loaded}
 use Rattle.core_seats.specs.NearRecords.{is_touched_thing, loaded_of, touching_one, near_one}
 
 -- each record has what a function gives at its id

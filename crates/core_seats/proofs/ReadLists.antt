@@ -8,7 +8,8 @@ use Rattle.std.proofs.lemmas.List.Elements.{All-get_or}
 use Rattle.areanode.specs.Trees.{IsTreeDepth, inner_in, nodes_in}
 use Rattle.areanode.specs.Depths.{sizes_of_depth}
 use Rattle.areanode.specs.declared.sizes.TheConstants.{MOST_LEAVES}
-use Rattle.core_steps.specs.Views.{player_at, bits_of_leaves, without_player}
+use Rattle.core_steps.specs.Reads.{player_at, without_player}
+use Rattle.core_steps.specs.Held.{bits_of_leaves}
 use Rattle.core_seats.specs.declared.seat.PlayerRead.{PlayerRead}
 use Rattle.core_seats.specs.Seats.{player_read_of}
 

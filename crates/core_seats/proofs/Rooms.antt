@@ -11,7 +11,10 @@ use Rattle.areanode.specs.declared.sizes.TheConstants.{MOST_NODES}
 use Rattle.entity_recs.specs.declared.effect.Effect.{Effect}
 use Rattle.entity_recs.specs.Records.{IsRecord}
 use Rattle.entity_recs.specs.Actions.{HasPlayer, IsCommand, HasValidity}
-use Rattle.core_steps.specs.Views.{Fixed, View, PlayerRead, Store, Point, Taking, Entered, Loading, Sensing, Resolving, Claiming, Storing, stage_of, is_busy, is_open, is_whole, is_settled, is_read_again, has, record_read, nodes_of, inner_nodes, inner_of_two, home, region_in, effect_loaded, without_player}
+use Rattle.core_steps.specs.Nodes.{Fixed, has, nodes_of, inner_nodes, inner_of_two, home}
+use Rattle.core_steps.specs.Points.{Store, Point, Taking, Entered, Loading, Sensing, Resolving, Claiming, Storing}
+use Rattle.core_steps.specs.Points.{stage_of, is_busy, is_open, is_whole, is_settled, is_read_again}
+use Rattle.core_steps.specs.Reads.{View, PlayerRead, record_read, region_in, effect_loaded, without_player}
 use Rattle.core_steps.specs.Stands.{AreDistinct, IsAt, IsUnder, IsTaking, IsClaiming, IsClaimingAfter, IsStoring}
 use Rattle.core_steps.specs.Machine.{slots_of, lists_ahead, states_ahead, SomeIsLeft}
 use Rattle.core_steps.proofs.Lists.{distinct_filter, has_filter}

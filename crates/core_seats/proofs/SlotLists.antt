@@ -13,7 +13,8 @@ use Rattle.arena_geo.specs.Regions.{touches_region}
 use Rattle.entity_recs.specs.declared.rec.Rec.{Rec}
 use Rattle.entity_recs.specs.Bodies.{abs_of}
 use Rattle.areanode.specs.Words.{has_bit}
-use Rattle.core_steps.specs.Views.{Fixed, has, player_of}
+use Rattle.core_steps.specs.Nodes.{Fixed, has}
+use Rattle.core_steps.specs.Reads.{player_of}
 use Rattle.core_seats.specs.NearRecords.{touching_one}
 use Rattle.core_seats.specs.NearKept.{near_player, records_touching, kept_at, other_players, players_kept}
 use Rattle.core_seats.proofs.KeptNear.{IsBelowAll, AreRising, are_rising}

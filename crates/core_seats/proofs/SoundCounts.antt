@@ -1,6 +1,8 @@
 -- A sound view has what its steps need to lower how many are left.
 use Rattle.std.proofs.Common.{◌≡◌, ℕ, List, ap, subst}
-use Rattle.core_steps.specs.Views.{Fixed, Point, Checking, Loading, View, stage_of, is_owning, is_whole}
+use Rattle.core_steps.specs.Nodes.{Fixed}
+use Rattle.core_steps.specs.Points.{Point, Checking, Loading, stage_of, is_owning, is_whole}
+use Rattle.core_steps.specs.Reads.{View}
 use Rattle.core_steps.specs.Stands.{IsAt}
 use Rattle.core_seats.specs.Sound.{IsSound}
 use Rattle.core_seats.specs.Laws.{SoundViewsCount}

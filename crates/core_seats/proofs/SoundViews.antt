@@ -9,7 +9,9 @@ use Rattle.entity_recs.specs.Bodies.{abs_of}
 use Rattle.entity_recs.specs.declared.limits.TheConstants.{IDS}
 use Rattle.core_steps.specs.declared.sizes.TheConstants.{TABLE_WORDS}
 use Rattle.core_steps.specs.Cells.{state_index, cell_index, cell_of}
-use Rattle.core_steps.specs.Views.{Fixed, Loading, Sensing, Storing, View, region_in, stores_owed}
+use Rattle.core_steps.specs.Nodes.{Fixed}
+use Rattle.core_steps.specs.Points.{Loading, Sensing, Storing, stores_owed}
+use Rattle.core_steps.specs.Reads.{View, region_in}
 use Rattle.core_steps.specs.Stands.{IsLawful, IsStart, IsAt}
 use Rattle.core_steps.specs.Steps.{first}
 use Rattle.core_steps.specs.declared.step.StepKind.TheVariants.{Load}

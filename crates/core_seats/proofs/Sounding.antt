@@ -7,7 +7,11 @@ use Rattle.entity_recs.specs.Actions.{HasPlayer}
 use Rattle.entity_recs.specs.Worlds.{World, others_of}
 use Rattle.entity_recs.specs.Histories.{Item}
 use Rattle.core_steps.specs.declared.sizes.TheConstants.{TABLE_WORDS}
-use Rattle.core_steps.specs.Views.{Fixed, Store, Point, Idle, Owning, Taking, Checking, Entering, Entered, Loading, Leaving, Sensing, Resolving, Claiming, Storing, Releasing, Returning, Yielding, stage_of, is_settled, is_read_again, stores_owed, FitsTable, record_read}
+use Rattle.core_steps.specs.Nodes.{Fixed, FitsTable}
+use Rattle.core_steps.specs.Points.{Store, Point, Idle, Owning, Taking, Checking, Entering, Entered, Loading, Leaving}
+use Rattle.core_steps.specs.Points.{Sensing, Resolving, Claiming, Storing, Releasing, Returning, Yielding, stage_of}
+use Rattle.core_steps.specs.Points.{is_settled, is_read_again, stores_owed}
+use Rattle.core_steps.specs.Reads.{record_read}
 use Rattle.core_steps.specs.Steps.{is_taking, first_yield}
 use Rattle.core_steps.specs.Stands.{IsLawful, IsStart}
 use Rattle.core_steps.specs.Machine.{Machine, StoreWord, index_of_store, next_of, next_at, quitting, MachineStands}

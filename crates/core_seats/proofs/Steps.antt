@@ -6,7 +6,10 @@ use Rattle.entity_recs.specs.declared.effect.Effect.{Effect}
 use Rattle.entity_recs.specs.Commands.{Command}
 use Rattle.entity_recs.specs.Actions.{HasPlayer}
 use Rattle.core_steps.specs.declared.step.StepKind.TheVariants.{Commit}
-use Rattle.core_steps.specs.Views.{Fixed, View, Store, Point, Owning, Taking, Entering, Loading, Sensing, Resolving, Claiming, Storing, record_read, leaf_nodes, region_in, write_nodes}
+use Rattle.core_steps.specs.Nodes.{Fixed, leaf_nodes, write_nodes}
+use Rattle.core_steps.specs.Points.{Store, Point, Owning, Taking, Entering, Loading, Sensing, Resolving, Claiming}
+use Rattle.core_steps.specs.Points.{Storing}
+use Rattle.core_steps.specs.Reads.{View, record_read, region_in}
 use Rattle.core_steps.specs.Steps.{view_after_own, view_after_take, view_after_refusal, view_after_commit, view_after_state, view_after_give, player_loaded, storing, next_take}
 use Rattle.core_steps.specs.Machine.{Next, TakeNode, CommitMove, ReadPlayer, ReadState, StoreWord, next_at, committing, giving, resolving, kind_of}
 use Rattle.core_seats.specs.Going.{view_found}

@@ -13,7 +13,11 @@ use Rattle.entity_recs.specs.declared.effect.NewState.{NewState}
 use Rattle.entity_recs.specs.Commands.{Command}
 use Rattle.core_steps.specs.Cells.{State}
 use Rattle.core_steps.specs.Encoding.{words_of}
-use Rattle.core_steps.specs.Views.{Fixed, Store, Put, Link, Point, Idle, Owning, Taking, Checking, Entering, Entered, Loading, Leaving, Sensing, Resolving, Claiming, Storing, Releasing, Returning, Yielding, View, has, inner_nodes, is_leaf, plan_of, things_in, region_in, players_in, home, record_read, write_nodes, stores_of, body_stores}
+use Rattle.core_steps.specs.Nodes.{Fixed, has, inner_nodes, is_leaf, plan_of, home, write_nodes}
+use Rattle.core_steps.specs.Points.{Store, Put, Link, Point, Idle, Owning, Taking, Checking, Entering, Entered, Loading}
+use Rattle.core_steps.specs.Points.{Leaving, Sensing, Resolving, Claiming, Storing, Releasing, Returning, Yielding}
+use Rattle.core_steps.specs.Points.{stores_of, body_stores}
+use Rattle.core_steps.specs.Reads.{View, things_in, region_in, players_in, record_read}
 use Rattle.core_steps.specs.Steps.{sensing, visiting, loading, taking, storing, returning, yielding, rest_of, first}
 use Rattle.core_steps.specs.Machine.{giving, resolving, committing}
 use Rattle.core_steps.specs.Stands.{AreDistinct}

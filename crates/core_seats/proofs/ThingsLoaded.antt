@@ -13,7 +13,8 @@ use Rattle.entity_recs.specs.declared.rec.Rec.{Rec}
 use Rattle.entity_recs.specs.declared.effect.NewState.{NewState}
 use Rattle.entity_recs.specs.Bodies.{abs_of}
 use Rattle.entity_recs.specs.Records.{with_state}
-use Rattle.core_steps.specs.Views.{Fixed, has, state_at, thing_of, things_in}
+use Rattle.core_steps.specs.Nodes.{Fixed, has}
+use Rattle.core_steps.specs.Reads.{state_at, thing_of, things_in}
 use Rattle.core_seats.specs.NearKept.{AreAtIds, AreThings, thing_with, records_touching, things_loaded}
 use Rattle.entity_recs.specs.Actions.{Meaning, HasValidity}
 use Rattle.entity_recs.proofs.Ids.{id_in}

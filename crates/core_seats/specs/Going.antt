@@ -1,8 +1,10 @@
 -- What one step does: the view after it, and the word that it leaves.
 use Rattle.std.specs.Prelude.{ℕ, suc, ◌==◌, if◌then◌else◌, [], ◌∷◌, ◌++◌}
 use Rattle.core_steps.specs.Cells.{with_bit, without_bit}
-use Rattle.core_steps.specs.Views.{Fixed, Store, Clear, Put, Link, AtClaiming, stage_of, View, without_command}
-use Rattle.core_steps.specs.Views.{inner_held, leaves_held, held_word}
+use Rattle.core_steps.specs.Nodes.{Fixed}
+use Rattle.core_steps.specs.Points.{Store, Clear, Put, Link, AtClaiming, stage_of}
+use Rattle.core_steps.specs.Reads.{View, without_command}
+use Rattle.core_steps.specs.Held.{inner_held, leaves_held, held_word}
 use Rattle.core_steps.specs.Steps.{view_after_take, view_after_claim, view_after_refusal, point_after_take}
 use Rattle.core_steps.specs.Steps.{view_after_give, yielded, view_after_list, view_after_begin, view_after_own}
 use Rattle.core_steps.specs.Steps.{view_after_again, player_loaded, view_after_state, view_after_commit, storing}

@@ -10,7 +10,8 @@ use Rattle.entity_recs.specs.declared.effect.NewState.{NewState}
 use Rattle.entity_recs.specs.Bodies.{abs_of}
 use Rattle.areanode.specs.Words.{has_bit}
 use Rattle.core_seats.specs.NearRecords.{touching_one}
-use Rattle.core_steps.specs.Views.{Fixed, record_read, player_of, state_at, thing_of, things_in}
+use Rattle.core_steps.specs.Nodes.{Fixed}
+use Rattle.core_steps.specs.Reads.{record_read, player_of, state_at, thing_of, things_in}
 
 -- the words kept of the player in this slot, where its bit is set
 abbrev pub kept_at : ℕ → List (List ℕ) → ℕ → Option (List ℕ)

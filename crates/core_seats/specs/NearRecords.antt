@@ -5,7 +5,7 @@ use Rattle.arena_geo.specs.Regions.{touches_region}
 use Rattle.entity_recs.specs.declared.rec.Rec.{Rec}
 use Rattle.entity_recs.specs.declared.effect.NewState.{NewState}
 use Rattle.entity_recs.specs.Bodies.{abs_of}
-use Rattle.core_steps.specs.Views.{PlayerRead, player_at, player_of, state_at, thing_of}
+use Rattle.core_steps.specs.Reads.{PlayerRead, player_at, player_of, state_at, thing_of}
 
 -- a thing of the map whose absolute box touches a region
 abbrev pub is_touched_thing : List Bounds → Rec → Bool

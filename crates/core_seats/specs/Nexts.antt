@@ -2,9 +2,12 @@
 use Rattle.std.specs.Prelude.{Bool, if◌then◌else◌, Option, Some, None}
 use Rattle.entity_recs.specs.declared.effect.Effect.{Effect}
 use Rattle.entity_recs.specs.Commands.{Command}
-use Rattle.core_steps.specs.Views.{Fixed, Point, Idle, Owning, Taking, Checking, Entering, Entered, Loading, Leaving}
-use Rattle.core_steps.specs.Views.{Sensing, Resolving, Claiming, Storing, Releasing, Returning, Yielding, View}
-use Rattle.core_steps.specs.Views.{record_read, write_nodes}
+use Rattle.core_steps.specs.Nodes.{Fixed}
+use Rattle.core_steps.specs.Points.{Point, Idle, Owning, Taking, Checking, Entering, Entered, Loading, Leaving}
+use Rattle.core_steps.specs.Points.{Sensing, Resolving, Claiming, Storing, Releasing, Returning, Yielding}
+use Rattle.core_steps.specs.Reads.{View}
+use Rattle.core_steps.specs.Nodes.{write_nodes}
+use Rattle.core_steps.specs.Reads.{record_read}
 use Rattle.core_steps.specs.Steps.{first_yield}
 use Rattle.core_steps.specs.Machine.{Next, YieldCount, resolving, quitting, next_at}
 

@@ -1,7 +1,7 @@
 -- What a seat has left to do, as the point of the definitions.
 use Rattle.std.specs.Prelude.{ℕ, ◌≡◌, [], map}
 use Rattle.core_steps.specs.Cells as cells
-use Rattle.core_steps.specs.Views as views
+use Rattle.core_steps.specs.Points as core_points
 use Rattle.core_seats.specs.declared.point.Cell.{Cell}
 use Rattle.core_seats.specs.declared.point.Cell.TheVariants.{Body, State}
 use Rattle.core_seats.specs.declared.point.Store.{Store}
@@ -28,25 +28,25 @@ cell_in (Body slot k) = cells.Body slot k
 cell_in (State id) = cells.State id
 
 -- the store of the definitions
-abbrev pub store_of : Store → views.Store
-store_of (Clear node) = views.Clear node
-store_of (Put cell x) = views.Put (cell_in cell) x
-store_of (Link node) = views.Link node
+abbrev pub store_of : Store → core_points.Store
+store_of (Clear node) = core_points.Clear node
+store_of (Put cell x) = core_points.Put (cell_in cell) x
+store_of (Link node) = core_points.Link node
 
 -- the point of the definitions, with the lists that it speaks of
-abbrev pub point_of : Queues → Point → views.Point
-point_of qs Idle = views.Idle
-point_of qs Owning = views.Owning
-point_of qs Taking = views.Taking qs.got.items qs.rest.items
-point_of qs Checking = views.Checking
-point_of qs (Entering node) = views.Entering node qs.plan.items
-point_of qs (Entered node) = views.Entered node qs.plan.items
-point_of qs (Loading node) = views.Loading node qs.part.items qs.players.items qs.plan.items
-point_of qs (Leaving node) = views.Leaving node qs.plan.items
-point_of qs Sensing = views.Sensing qs.things.ids
-point_of qs Resolving = views.Resolving
-point_of qs Claiming = views.Claiming qs.got.items qs.rest.items
-point_of qs Storing = views.Storing qs.got.items (map store_of qs.stores.items)
-point_of qs Releasing = views.Releasing qs.got.items
-point_of qs Returning = views.Returning qs.rest.items
-point_of qs Yielding = views.Yielding qs.got.items qs.rest.items
+abbrev pub point_of : Queues → Point → core_points.Point
+point_of qs Idle = core_points.Idle
+point_of qs Owning = core_points.Owning
+point_of qs Taking = core_points.Taking qs.got.items qs.rest.items
+point_of qs Checking = core_points.Checking
+point_of qs (Entering node) = core_points.Entering node qs.plan.items
+point_of qs (Entered node) = core_points.Entered node qs.plan.items
+point_of qs (Loading node) = core_points.Loading node qs.part.items qs.players.items qs.plan.items
+point_of qs (Leaving node) = core_points.Leaving node qs.plan.items
+point_of qs Sensing = core_points.Sensing qs.things.ids
+point_of qs Resolving = core_points.Resolving
+point_of qs Claiming = core_points.Claiming qs.got.items qs.rest.items
+point_of qs Storing = core_points.Storing qs.got.items (map store_of qs.stores.items)
+point_of qs Releasing = core_points.Releasing qs.got.items
+point_of qs Returning = core_points.Returning qs.rest.items
+point_of qs Yielding = core_points.Yielding qs.got.items qs.rest.items

@@ -2,9 +2,11 @@
 use Rattle.std.specs.Prelude.{◌≡◌, Bool, true, false, if◌then◌else◌, Option, Some, None}
 use Rattle.entity_recs.specs.declared.effect.Effect.{Effect}
 use Rattle.entity_recs.specs.Commands.{Command}
-use Rattle.core_steps.specs.Views.{Fixed, Point}
-use Rattle.core_steps.specs.Views.{Resolving, View}
-use Rattle.core_steps.specs.Views.{effect_loaded}
+use Rattle.core_steps.specs.Nodes.{Fixed}
+use Rattle.core_steps.specs.Points.{Point}
+use Rattle.core_steps.specs.Points.{Resolving}
+use Rattle.core_steps.specs.Reads.{View}
+use Rattle.core_steps.specs.Reads.{effect_loaded}
 use Rattle.core_steps.specs.Steps.{is_taking}
 use Rattle.core_steps.specs.Machine.{IsPending}
 use Rattle.core_seats.specs.Sound.{IsSound}

@@ -3,8 +3,8 @@ use Rattle.std.specs.Prelude.{ℕ, ◌≡◌, true, false, [], map, Option, Some
 use Rattle.std.specs.Option.{option_map}
 use Rattle.entity_recs.specs.declared.cmd.Cmd.{Cmd}
 use Rattle.entity_recs.specs.Commands.{Command, command_of}
-use Rattle.core_steps.specs.Views as views
-use Rattle.core_steps.specs.Views.{View, no_command, new_view}
+use Rattle.core_steps.specs.Reads as core_reads
+use Rattle.core_steps.specs.Reads.{View, no_command, new_view}
 use Rattle.core_seats.specs.declared.seat.ListRead.{ListRead}
 use Rattle.core_seats.specs.declared.seat.PlayerRead.{PlayerRead}
 use Rattle.core_seats.specs.declared.seat.Seat.{Seat}
@@ -12,11 +12,11 @@ use Rattle.core_seats.specs.Points.{point_of}
 use Rattle.core_seats.specs.Refusals.{last_of}
 
 -- the list word of the definitions
-abbrev pub list_read_of : ListRead → views.ListRead
+abbrev pub list_read_of : ListRead → core_reads.ListRead
 list_read_of read = record { node = read.node; word = read.word }
 
 -- the words of a player of the definitions
-abbrev pub player_read_of : PlayerRead → views.PlayerRead
+abbrev pub player_read_of : PlayerRead → core_reads.PlayerRead
 player_read_of read = record { slot = read.slot; words = read.words }
 
 -- the command in hand

@@ -5,7 +5,7 @@ use Rattle.areanode.specs.Trees.{TreeView, IsTreeDepth}
 use Rattle.entity_recs.specs.declared.rec.Rec.{Rec}
 use Rattle.entity_recs.specs.Worlds.{world_of}
 use Rattle.entity_recs.specs.Actions.{Meaning}
-use Rattle.core_steps.specs.Views.{Fixed, has}
+use Rattle.core_steps.specs.Nodes.{Fixed, has}
 use Rattle.core_steps.specs.Stands.{IsStart}
 use Rattle.core_seats.specs.declared.strips.ThingIndex.{ThingIndex}
 use Rattle.core_seats.specs.ThingStrips.{HasThings}

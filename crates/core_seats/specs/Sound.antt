@@ -4,9 +4,13 @@ use Rattle.entity_recs.specs.declared.effect.Effect.{Effect}
 use Rattle.entity_recs.specs.Actions.{HasPlayer, IsCall}
 use Rattle.areanode.specs.Trees.{IsTreeDepth}
 use Rattle.core_steps.specs.declared.sizes.TheConstants.{TABLE_WORDS}
-use Rattle.core_steps.specs.Views.{Fixed, Store, Resolving, stage_of, is_busy, is_open, is_owning, is_whole}
-use Rattle.core_steps.specs.Views.{is_settled, is_read_again, stores_owed, View}
-use Rattle.core_steps.specs.Views.{record_read, leaf_nodes, region_in, leaves_held, inner_held, loaded_near}
+use Rattle.core_steps.specs.Nodes.{Fixed}
+use Rattle.core_steps.specs.Points.{Store, Resolving, stage_of, is_busy, is_open, is_owning, is_whole}
+use Rattle.core_steps.specs.Points.{is_settled, is_read_again, stores_owed}
+use Rattle.core_steps.specs.Reads.{View}
+use Rattle.core_steps.specs.Nodes.{leaf_nodes}
+use Rattle.core_steps.specs.Reads.{record_read, region_in, loaded_near}
+use Rattle.core_steps.specs.Held.{leaves_held, inner_held}
 use Rattle.core_steps.specs.Stands.{IsGiven, IsHolding, IsUnread, IsAt}
 use Rattle.core_steps.specs.Machine.{HasNext, ViewFits, index_of_store}
 

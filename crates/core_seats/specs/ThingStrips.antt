@@ -5,7 +5,7 @@ use Rattle.std.specs.Int.{int_max}
 use Rattle.entity_recs.specs.declared.rec.Rec.{Rec}
 use Rattle.entity_recs.specs.Bodies.{abs_of}
 use Rattle.arena_geo.specs.Bounds.{Bounds}
-use Rattle.core_steps.specs.Views.{Fixed}
+use Rattle.core_steps.specs.Nodes.{Fixed}
 use Rattle.core_seats.specs.declared.strips.Strips.{Strips}
 use Rattle.core_seats.specs.declared.strips.ThingIndex.{ThingIndex}
 use Rattle.core_seats.specs.declared.strips.TheConstants.{STRIPS}

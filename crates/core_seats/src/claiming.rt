@@ -25,8 +25,9 @@ impl Seat {
     ghost use Rattle.entity_recs.specs.declared.effect.Effect.{Effect};
     ghost use Rattle.entity_recs.specs.Actions.{IsCommand};
     ghost use Rattle.entity_recs.specs.Records.{IsRecord};
-    ghost use Rattle.core_steps.specs.Views as views;
-    ghost use Rattle.core_steps.specs.Views.{record_read, write_nodes};
+    ghost use Rattle.core_steps.specs.Points as core_points;
+    ghost use Rattle.core_steps.specs.Nodes.{write_nodes};
+    ghost use Rattle.core_steps.specs.Reads.{record_read};
     ghost use Rattle.core_steps.specs.Steps as steps;
     ghost use Rattle.core_steps.specs.Machine.{resolving};
     ghost use Rattle.core_seats.specs.Going.{view_found};
@@ -60,7 +61,7 @@ impl Seat {
         requires { length self.old.queues.got.items < MOST_NODES }
         ensures got { self.new.queues.got.items ≡ self.old.queues.got.items ++ node ∷ [] }
         ensures rest { self.new.queues.rest.items ≡ steps.rest_of self.old.queues.rest.items }
-        ensures view { (point : views.Point) → record (view_of self.new) { point = point } ≡ record
+        ensures view { (point : core_points.Point) → record (view_of self.new) { point = point } ≡ record
             (view_of self.old) { point = point } }
         ensures point { self.new.point ≡ self.old.point }
         ensures things { things_room self.new ≡ things_room self.old }
@@ -72,8 +73,8 @@ impl Seat {
 
     /// The node that comes next, which was free, is taken.
     fn taken(&mut self, node: u8)
-        requires leaves { (got rest : List ℕ) → (view_of self.old).point ≡ views.Taking got rest → length got < MOST_NODES }
-        requires nodes { (got rest : List ℕ) → (view_of self.old).point ≡ views.Claiming got rest → length got < MOST_NODES }
+        requires leaves { (got rest : List ℕ) → (view_of self.old).point ≡ core_points.Taking got rest → length got < MOST_NODES }
+        requires nodes { (got rest : List ℕ) → (view_of self.old).point ≡ core_points.Claiming got rest → length got < MOST_NODES }
         ensures view { view_of self.new ≡ steps.view_after_take node (view_of self.old) }
         ensures things { things_room self.new ≡ things_room self.old }
     {
@@ -90,8 +91,8 @@ impl Seat {
 
     /// The node that comes next is taken where its word was 0, and its take is refused where it wasn't.
     pub(crate) fn take_next(&mut self, found: u64)
-        requires leaves { (got rest : List ℕ) → (view_of self.old).point ≡ views.Taking got rest → length got < MOST_NODES }
-        requires nodes { (got rest : List ℕ) → (view_of self.old).point ≡ views.Claiming got rest → length got < MOST_NODES }
+        requires leaves { (got rest : List ℕ) → (view_of self.old).point ≡ core_points.Taking got rest → length got < MOST_NODES }
+        requires nodes { (got rest : List ℕ) → (view_of self.old).point ≡ core_points.Claiming got rest → length got < MOST_NODES }
         ensures view { (node : ℕ) → steps.next_take (view_of self.old).point ≡ Some node → view_of self.new ≡ (if found == 0
             then steps.view_after_take node (view_of self.old)
             else steps.view_after_refusal node found (view_of self.old)) }
@@ -115,7 +116,7 @@ impl Seat {
         requires room { length self.old.log.items < self.old.log.room }
         requires place { place + 1 < 2 ^ 64 }
         ensures view { (e : Effect) (got rest : List ℕ) → self.old.effect ≡ Some e
-            → (view_of self.old).point ≡ views.Claiming got rest
+            → (view_of self.old).point ≡ core_points.Claiming got rest
             → view_of self.new
             ≡ steps.view_after_commit (fixed_of A.meaning rules.now) place e got
             (view_of self.old) }

@@ -2,8 +2,8 @@ ghost use Rattle.std.specs.Prelude.{◌≡◌, [], ◌∷◌, ◌++◌, map, len
 ghost use Rattle.entity_recs.specs.declared.effect.NewState.{NewState};
 ghost use Rattle.core_steps.specs.Cells.{State};
 ghost use Rattle.core_steps.specs.Encoding.{words_of};
-ghost use Rattle.core_steps.specs.Views as views;
-ghost use Rattle.core_steps.specs.Views.{body_stores};
+ghost use Rattle.core_steps.specs.Points as core_points;
+ghost use Rattle.core_steps.specs.Points.{body_stores};
 ghost use Rattle.core_seats.specs.Points.{store_of};
 
 use crate::point::{Cell, Point, Store, StoreQueue};
@@ -35,9 +35,9 @@ pub fn same_effect(effect: &Effect) -> Effect
 /// the own bit is cleared, the five words and the state word of the own record are stored, then the listed states in
 /// the list's order, and the own bit is set.
 fn stores_of(slot: u8, old: u8, new: u8, effect: &Effect) -> StoreQueue
-    ensures { map store_of result.items ≡ views.Clear old ∷ (body_stores slot 0 (words_of effect.now.me)
-        ++ (views.Put (State slot) effect.now.me.state
-        ∷ (map (λ (s : NewState). views.Put (State s.id) s.state) effect.now.states ++ (views.Link new ∷ [])))) }
+    ensures { map store_of result.items ≡ core_points.Clear old ∷ (body_stores slot 0 (words_of effect.now.me)
+        ++ (core_points.Put (State slot) effect.now.me.state
+        ∷ (map (λ (s : NewState). core_points.Put (State s.id) s.state) effect.now.states ++ (core_points.Link new ∷ [])))) }
 {
     let words = encode(&effect.me);
     let mut stores = own_stores(slot, old, &words, effect.me.state);
@@ -51,7 +51,7 @@ fn stores_of(slot: u8, old: u8, new: u8, effect: &Effect) -> StoreQueue
 /// The first of these stores: of the own bit and the own words.
 fn own_stores(slot: u8, old: u8, words: &PlayerWords, state: u64) -> StoreQueue
     ensures stores { map store_of result.items
-        ≡ views.Clear old ∷ (body_stores slot 0 words.now ++ (views.Put (State slot) state ∷ [])) }
+        ≡ core_points.Clear old ∷ (body_stores slot 0 words.now ++ (core_points.Put (State slot) state ∷ [])) }
     ensures few { length result.items ≡ 7 }
 {
     let [first, second, third, fourth, fifth] = *words;
@@ -71,8 +71,8 @@ impl Seat {
     ghost use Rattle.entity_recs.specs.declared.effect.Effect.{Effect};
     ghost use Rattle.entity_recs.specs.Records.{IsRecord};
     ghost use Rattle.entity_recs.specs.Actions.{IsCommand};
-    ghost use Rattle.core_steps.specs.Views as views;
-    ghost use Rattle.core_steps.specs.Views.{record_read};
+    ghost use Rattle.core_steps.specs.Points as core_points;
+    ghost use Rattle.core_steps.specs.Reads.{record_read};
     ghost use Rattle.core_steps.specs.Steps as steps;
     ghost use Rattle.core_seats.specs.Seats.{view_of, things_room, hand_of};
     ghost use Rattle.core_seats.specs.Shown.{fixed_of};
@@ -121,8 +121,8 @@ impl Seat {
 
     /// The first of the stores that are left was made.
     pub(crate) fn store_made(&mut self)
-        ensures view { (nodes : List ℕ) (store : views.Store) (stores : List views.Store)
-            → (view_of self.old).point ≡ views.Storing nodes (store ∷ stores)
+        ensures view { (nodes : List ℕ) (store : core_points.Store) (stores : List core_points.Store)
+            → (view_of self.old).point ≡ core_points.Storing nodes (store ∷ stores)
             → view_of self.new ≡ record (view_of self.old) { point = steps.storing nodes stores } }
         ensures things { things_room self.new ≡ things_room self.old }
     {

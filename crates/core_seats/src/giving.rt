@@ -1,5 +1,5 @@
 ghost use Rattle.std.specs.Prelude.{◌≡◌};
-ghost use Rattle.core_steps.specs.Views.{visited_node};
+ghost use Rattle.core_steps.specs.Held.{visited_node};
 ghost use Rattle.core_seats.specs.Shown.{fixed_of};
 
 use crate::lists::one;
@@ -24,8 +24,9 @@ impl Seat {
     ghost use Rattle.std.specs.Prelude.{◌≡◌, ◌≤◌, ℕ, List, length};
     ghost use Rattle.entity_recs.specs.Actions.{HasPlayer};
     ghost use Rattle.core_steps.specs.Steps as steps;
-    ghost use Rattle.core_steps.specs.Views as views;
-    ghost use Rattle.core_steps.specs.Views.{record_read};
+    ghost use Rattle.core_steps.specs.Points as core_points;
+    ghost use Rattle.core_steps.specs.Held as core_held;
+    ghost use Rattle.core_steps.specs.Reads.{record_read};
     ghost use Rattle.core_seats.specs.Seats.{view_of, things_room, hand_of};
     ghost use Rattle.core_seats.specs.Shown.{fixed_of};
 
@@ -95,7 +96,7 @@ impl Seat {
 
     /// The node that comes next was given back.
     pub(crate) fn give_next<A: Action>(&mut self, rules: &Rules<A>)
-        requires player { (node : ℕ) (plan : List ℕ) → (view_of self.old).point ≡ views.Leaving node plan
+        requires player { (node : ℕ) (plan : List ℕ) → (view_of self.old).point ≡ core_points.Leaving node plan
             → HasPlayer ((A.meaning rules.now.action).takes)
             (record_read (hand_of self.old.cmd).slot self.old.own.items) (hand_of self.old.cmd) }
         requires things { length (fixed_of A.meaning rules.now).start.ids ≤ things_room self.old }
@@ -120,7 +121,7 @@ impl Seat {
     /// The inner nodes that are held.
     pub fn inner_held<A: Action>(&self, rules: &Rules<A>) -> NodeQueue
         ensures { result.items
-            ≡ views.inner_held (fixed_of A.meaning rules.now) (view_of self.now).point }
+            ≡ core_held.inner_held (fixed_of A.meaning rules.now) (view_of self.now).point }
     {
         match self.point {
             Point::Entered { node } | Point::Loading { node } | Point::Leaving { node } => {
@@ -142,7 +143,7 @@ impl Seat {
 
     /// The leaves that are held, of those wanted.
     pub fn leaves_held(&self) -> NodeQueue
-        ensures { result.items ≡ views.leaves_held (view_of self.now).point self.now.wanted.items }
+        ensures { result.items ≡ core_held.leaves_held (view_of self.now).point self.now.wanted.items }
     {
         match self.point {
             Point::Idle | Point::Owning => Queue::new(),

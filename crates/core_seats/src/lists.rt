@@ -3,7 +3,8 @@ ghost use Rattle.std.specs.Prelude.{length, filter, map, not, if◌then◌else�
 ghost use Rattle.std.specs.List.{range_with_len};
 ghost use Rattle.areanode.specs.Words.{has_bit};
 ghost use Rattle.areanode.specs.Trees.{IsTreeDepth, leaf_node, inner_in, leaves_in, nodes_in};
-ghost use Rattle.core_steps.specs.Views.{players_in, bits_of_leaves};
+ghost use Rattle.core_steps.specs.Reads.{players_in};
+ghost use Rattle.core_steps.specs.Held.{bits_of_leaves};
 
 use crate::point::{NodeQueue, SlotQueue, WordList};
 use crate::queue::Queue;

@@ -49,8 +49,9 @@ impl Seat {
     ghost use Rattle.areanode.specs.declared.sizes.TheConstants.{MOST_NODES};
     ghost use Rattle.entity_recs.specs.Commands.{Command, command_of};
     ghost use Rattle.entity_recs.specs.Actions.{HasPlayer};
-    ghost use Rattle.core_steps.specs.Views as views;
-    ghost use Rattle.core_steps.specs.Views.{record_read, leaf_nodes, region_in};
+    ghost use Rattle.core_steps.specs.Points as core_points;
+    ghost use Rattle.core_steps.specs.Nodes.{leaf_nodes};
+    ghost use Rattle.core_steps.specs.Reads.{record_read, region_in};
     ghost use Rattle.core_steps.specs.Steps as steps;
     ghost use Rattle.core_seats.specs.declared.seat.PlayerRead.{PlayerRead};
     ghost use Rattle.core_seats.specs.Seats.{view_of, things_room, given_of, hand_of};
@@ -74,7 +75,7 @@ impl Seat {
         ensures view { let leaves = leaf_nodes (fixed_of A.meaning rules.now)
             (region_in (fixed_of A.meaning rules.now) (hand_of self.old.cmd) self.old.own.items)
             in
-            view_of self.new ≡ record (view_of self.old) { wanted = leaves; point = views.Taking [] leaves } }
+            view_of self.new ≡ record (view_of self.old) { wanted = leaves; point = core_points.Taking [] leaves } }
         ensures things { things_room self.new ≡ things_room self.old }
     {
         let region = rules.region(&self.hand(), self.own.as_slice());
@@ -176,7 +177,7 @@ impl Seat {
         requires player { HasPlayer ((A.meaning rules.now.action).takes)
             (record_read (hand_of self.old.cmd).slot self.old.own.items) (hand_of self.old.cmd) }
         requires things { length (fixed_of A.meaning rules.now).start.ids ≤ things_room self.old }
-        ensures view { (node : ℕ) (plan : List ℕ) → (view_of self.old).point ≡ views.Entered node plan → view_of self.new
+        ensures view { (node : ℕ) (plan : List ℕ) → (view_of self.old).point ≡ core_points.Entered node plan → view_of self.new
             ≡ steps.view_after_list (fixed_of A.meaning rules.now) node plan word
             (view_of self.old) }
         ensures things { things_room self.new ≡ things_room self.old }
@@ -189,19 +190,19 @@ impl Seat {
     /// One more word of the player that is loaded under the present node was loaded.
     pub(crate) fn read_player<A: Action>(&mut self, rules: &Rules<A>, word: u64)
         requires part { (node : ℕ) (part players plan : List ℕ)
-            → (view_of self.old).point ≡ views.Loading node part players plan
+            → (view_of self.old).point ≡ core_points.Loading node part players plan
             → length part < 6 }
         requires some { (node : ℕ) (part players plan : List ℕ)
-            → (view_of self.old).point ≡ views.Loading node part players plan
+            → (view_of self.old).point ≡ core_points.Loading node part players plan
             → 0 < length players }
         requires room { (node slot : ℕ) (part players plan : List ℕ)
-            → (view_of self.old).point ≡ views.Loading node part (slot ∷ players) plan
+            → (view_of self.old).point ≡ core_points.Loading node part (slot ∷ players) plan
             → length (filter (λ (r : PlayerRead). not (r.slot == slot)) self.old.others.items) < 64 }
         requires player { HasPlayer ((A.meaning rules.now.action).takes)
             (record_read (hand_of self.old.cmd).slot self.old.own.items) (hand_of self.old.cmd) }
         requires things { length (fixed_of A.meaning rules.now).start.ids ≤ things_room self.old }
         ensures view { (node slot : ℕ) (part players plan : List ℕ)
-            → (view_of self.old).point ≡ views.Loading node part (slot ∷ players) plan
+            → (view_of self.old).point ≡ core_points.Loading node part (slot ∷ players) plan
             → view_of self.new ≡ steps.player_loaded (fixed_of A.meaning rules.now) node
             (part ++ word ∷ []) slot players plan
             (view_of self.old) }
@@ -222,7 +223,7 @@ impl Seat {
     /// The state of the first of the things that are left was loaded.
     pub(crate) fn read_state(&mut self, word: u64)
         requires { length self.old.queues.things.states < things_room self.old }
-        ensures view { (id : ℕ) (ids : List ℕ) → (view_of self.old).point ≡ views.Sensing (id ∷ ids) → view_of self.new
+        ensures view { (id : ℕ) (ids : List ℕ) → (view_of self.old).point ≡ core_points.Sensing (id ∷ ids) → view_of self.new
             ≡ steps.view_after_state id word ids (view_of self.old) }
         ensures things { things_room self.new ≡ things_room self.old }
     {

@@ -1,5 +1,5 @@
 ghost use Rattle.std.specs.Prelude.{◌≡◌, ◌≤◌, ℕ, [], map, filter, length, slice_index_or, true, false, vec_capacity, None};
-ghost use Rattle.core_steps.specs.Views.{player_at};
+ghost use Rattle.core_steps.specs.Reads.{player_at};
 ghost use Rattle.std.specs.List.{filter_map};
 ghost use Rattle.entity_recs.specs.declared.rec.Rec.{Rec};
 ghost use Rattle.entity_recs.specs.Records as records;

@@ -3,7 +3,7 @@ ghost use Rattle.std.specs.Prelude.{filter, length};
 ghost use Rattle.std.specs.List.{filter_map, range_with_len};
 ghost use Rattle.core_seats.specs.NearKept.{near_player};
 ghost use Rattle.areanode.specs.Words.{has_bit};
-ghost use Rattle.core_steps.specs.Views.{has};
+ghost use Rattle.core_steps.specs.Nodes.{has};
 ghost use Rattle.entity_recs.specs.declared.rec.Rec.{Rec};
 
 use crate::boxes::touches_region;

@@ -2,8 +2,9 @@ ghost use Rattle.std.specs.Prelude.{◌≡◌, ◌<◌, ℕ, List, ◌∷◌, ma
 ghost use Rattle.std.specs.Option.{option_map};
 ghost use Rattle.entity_recs.specs.Commands.{Command};
 ghost use Rattle.core_steps.specs.declared.sizes.TheConstants.{TABLE_WORDS};
-ghost use Rattle.core_steps.specs.Views as views;
-ghost use Rattle.core_steps.specs.Views.{Fixed, View};
+ghost use Rattle.core_steps.specs.Points as core_points;
+ghost use Rattle.core_steps.specs.Nodes.{Fixed};
+ghost use Rattle.core_steps.specs.Reads.{View};
 ghost use Rattle.core_steps.specs.Machine.{step_of, next_at, index_of_store};
 ghost use Rattle.core_seats.specs.declared.point.Store.{Store};
 ghost use Rattle.core_seats.specs.Points.{store_of};
@@ -35,7 +36,7 @@ fn next_store_step(number: u8, stores: &[Store]) -> Option<Step>
     requires { (store : Store) (rest : List Store) → stores.now ≡ store ∷ rest
         → index_of_store (store_of store) < TABLE_WORDS }
     ensures { (F : Fixed) (view : View) (given : Option Command) (nodes : List ℕ) → result
-        ≡ option_map (step_of number view) (next_at F view given (views.Storing nodes (map store_of stores.now))) }
+        ≡ option_map (step_of number view) (next_at F view given (core_points.Storing nodes (map store_of stores.now))) }
 {
     let &[store, ..] = stores else {
         return None;
@@ -49,8 +50,9 @@ impl Seat {
     ghost use Rattle.entity_recs.specs.declared.effect.Effect.{Effect};
     ghost use Rattle.entity_recs.specs.Records.{IsRecord};
     ghost use Rattle.entity_recs.specs.Actions.{IsCommand, IsCall, HasPlayer};
-    ghost use Rattle.core_steps.specs.Views as views;
-    ghost use Rattle.core_steps.specs.Views.{Fixed, record_read, loaded_near, effect_loaded};
+    ghost use Rattle.core_steps.specs.Points as core_points;
+    ghost use Rattle.core_steps.specs.Nodes.{Fixed};
+    ghost use Rattle.core_steps.specs.Reads.{record_read, loaded_near, effect_loaded};
     ghost use Rattle.core_steps.specs.Steps.{first_yield};
     ghost use Rattle.core_steps.specs.Machine.{step_of, quitting, beginning, next_at};
     ghost use Rattle.core_seats.specs.Seats.{view_of, given_of, hand_of};
@@ -214,7 +216,7 @@ impl Seat {
     /// The step that takes the first of these write nodes, or commits the effect in view where none is left.
     fn claim_step(&self, number: u8, rest: &[u8]) -> Option<Step>
         ensures { (F : Fixed) (got : List ℕ) → result ≡ option_map (step_of number (view_of self.now))
-            (next_at F (view_of self.now) (given_of self.now) (views.Claiming got rest.now)) }
+            (next_at F (view_of self.now) (given_of self.now) (core_points.Claiming got rest.now)) }
     {
         if let &[node, ..] = rest {
             return Some(node_step(number, node, StepKind::Take));

@@ -6,7 +6,7 @@ use entity_recs::{Action, Cmd};
 impl Seat {
     ghost use Rattle.std.specs.Prelude.{◌≡◌, ◌≤◌, length, map};
     ghost use Rattle.entity_recs.specs.Actions.{HasPlayer, IsCommand};
-    ghost use Rattle.core_steps.specs.Views.{record_read, things_in, region_in};
+    ghost use Rattle.core_steps.specs.Reads.{record_read, things_in, region_in};
     ghost use Rattle.core_steps.specs.Steps as steps;
     ghost use Rattle.core_seats.specs.Points.{store_of};
     ghost use Rattle.core_seats.specs.Seats.{view_of, things_room, hand_of};

@@ -1,6 +1,6 @@
 ghost use Rattle.std.specs.Prelude.{◌≡◌};
 ghost use Rattle.core_steps.specs.Encoding.{nth_word};
-ghost use Rattle.core_steps.specs.Views.{record_read};
+ghost use Rattle.core_steps.specs.Reads.{record_read};
 
 use core_steps::decode;
 use entity_recs::Rec;

@@ -1,5 +1,5 @@
 ghost use Rattle.std.specs.Prelude.{◌≡◌, map};
-ghost use Rattle.core_steps.specs.Views.{player_at, state_at};
+ghost use Rattle.core_steps.specs.Reads.{player_at, state_at};
 ghost use Rattle.core_seats.specs.Seats.{player_read_of};
 
 use crate::seat::{LoadedPlayer, PlayerRead};

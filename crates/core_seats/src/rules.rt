@@ -59,8 +59,11 @@ impl<'a, A: Action> Rules<'a, A> {
     ghost use Rattle.entity_recs.specs.Actions.{HasPlayer, IsCall};
     ghost use Rattle.entity_recs.specs.Records.{IsRecord};
     ghost use Rattle.entity_recs.specs.Commands.{command_of};
-    ghost use Rattle.core_steps.specs.Views.{region_in, is_leaf, inner_nodes, leaf_nodes, plan_of};
-    ghost use Rattle.core_steps.specs.Views.{inner_of_two, things_in, home, record_read, near_loaded, leaf_word};
+    ghost use Rattle.core_steps.specs.Nodes.{is_leaf, inner_nodes, leaf_nodes, plan_of};
+    ghost use Rattle.core_steps.specs.Reads.{region_in};
+    ghost use Rattle.core_steps.specs.Nodes.{inner_of_two, home};
+    ghost use Rattle.core_steps.specs.Reads.{things_in, record_read, near_loaded};
+    ghost use Rattle.core_steps.specs.Held.{leaf_word};
     ghost use Rattle.core_steps.specs.Stands.{IsLawful, IsStart};
     ghost use Rattle.core_seats.specs.Seats.{player_read_of};
     ghost use Rattle.areanode.specs.Trees.{leaves_of, visited_of, inner_in, leaves_in, nodes_in};

@@ -69,7 +69,7 @@ pub struct Seat {
 
 impl Seat {
     ghost use Rattle.std.specs.Prelude.{◌≡◌, ◌<◌, ◌-◌, ◌^◌, suc, [], ◌∷◌, ◌++◌, length, IfOk};
-    ghost use Rattle.core_steps.specs.Views.{without_command};
+    ghost use Rattle.core_steps.specs.Reads.{without_command};
     ghost use Rattle.entity_recs.specs.Commands.{command_of};
     ghost use Rattle.core_seats.specs.Seats.{view_of, things_room, IsFresh};
 

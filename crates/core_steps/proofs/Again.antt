@@ -6,7 +6,12 @@ use Rattle.entity_recs.specs.Worlds.{World}
 use Rattle.entity_recs.specs.Histories.{Item}
 use Rattle.core_steps.specs.Cells.{Cell, Body, State, cell_of, word_in, put}
 use Rattle.core_steps.specs.Encoding.{nth_word}
-use Rattle.core_steps.specs.Views.{Fixed, list_at, player_at, is_before_leaves, is_read_again, Point, Checking, Stage, AtChecking, stage_of, is_busy, is_open, is_whole, is_settled, is_storing, is_committed, is_without_effect, View, has, plan_of, region_in, leaves_held, holds, held_word, stores_owed}
+use Rattle.core_steps.specs.Nodes.{Fixed, has, plan_of}
+use Rattle.core_steps.specs.Points.{is_before_leaves, is_read_again, Point, Checking, Stage, AtChecking, stage_of}
+use Rattle.core_steps.specs.Points.{is_busy, is_open, is_whole, is_settled, is_storing, is_committed, is_without_effect}
+use Rattle.core_steps.specs.Points.{stores_owed}
+use Rattle.core_steps.specs.Reads.{list_at, player_at, View, region_in}
+use Rattle.core_steps.specs.Held.{leaves_held, holds, held_word}
 use Rattle.core_steps.specs.Steps.{Core, visiting}
 use Rattle.core_steps.specs.Stands.{OwesRight, IsStart, IsLawful, IsHolding, HasOwn, IsCounted, IsUnread, IsReadRight, IsResolved, IsAt, Stands, value_in, is_live_cell, is_player, touches_own}
 use Rattle.core_steps.specs.Laws.{LoadedAgainStands}

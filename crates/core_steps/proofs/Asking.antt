@@ -11,7 +11,9 @@ use Rattle.entity_recs.specs.Worlds.{others_of}
 use Rattle.entity_recs.specs.Actions.{IsCall, records_touching}
 use Rattle.core_steps.specs.Encoding.{words_of, nth_word}
 use Rattle.core_steps.specs.Cells.{word_in, cell_of}
-use Rattle.core_steps.specs.Views.{Point, stage_of, is_settled, is_read_again, has, region_in, record_read}
+use Rattle.core_steps.specs.Nodes.{has}
+use Rattle.core_steps.specs.Points.{Point, stage_of, is_settled, is_read_again}
+use Rattle.core_steps.specs.Reads.{region_in, record_read}
 use Rattle.core_steps.specs.Stands.{touches_own}
 use Rattle.core_steps.specs.MachineLaws.{RegionMayBeAsked, LoadedRecordIsTaken, EffectMayBeAsked}
 use Rattle.core_steps.proofs.Lists.{has_filter}

@@ -2,7 +2,10 @@
 use Rattle.std.proofs.Common.{◌≡◌, ℕ, Bool, true, false, [], ◌∷◌, refl, Option, Some, None}
 use Rattle.std.specs.Prelude.{if◌then◌else◌}
 use Rattle.entity_recs.specs.Commands.{Command}
-use Rattle.core_steps.specs.Views.{Fixed, Point, Idle, Owning, Taking, Checking, Entering, Entered, Loading, Leaving, Sensing, Resolving, Claiming, Storing, Releasing, Returning, Yielding, View}
+use Rattle.core_steps.specs.Nodes.{Fixed}
+use Rattle.core_steps.specs.Points.{Point, Idle, Owning, Taking, Checking, Entering, Entered, Loading, Leaving, Sensing}
+use Rattle.core_steps.specs.Points.{Resolving, Claiming, Storing, Releasing, Returning, Yielding}
+use Rattle.core_steps.specs.Reads.{View}
 use Rattle.core_steps.specs.Steps.{next_give, is_taking, first_yield}
 use Rattle.core_steps.specs.Machine.{Next, LoadOwn, LoadAgain, ReadList, ReadPlayer, ReadState, StoreWord, GiveNode, YieldNode, YieldCount, Begin, next_at, quitting, beginning, giving}
 use Rattle.core_steps.specs.Calls.{node_taken}

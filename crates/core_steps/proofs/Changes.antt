@@ -12,7 +12,9 @@ use Rattle.entity_recs.specs.Worlds.{World}
 use Rattle.entity_recs.specs.Histories.{outcome, with_new_state, apply}
 use Rattle.core_steps.specs.Cells.{Cell, Body, State, is_cell}
 use Rattle.core_steps.specs.Encoding.{words_of, nth_word}
-use Rattle.core_steps.specs.Views.{Fixed, Store, Clear, Put, Link, home, body_stores, stores_of, state_at}
+use Rattle.core_steps.specs.Nodes.{Fixed, home}
+use Rattle.core_steps.specs.Points.{Store, Clear, Put, Link, body_stores, stores_of}
+use Rattle.core_steps.specs.Reads.{state_at}
 use Rattle.core_steps.specs.Stands.{OwesRight, is_player, is_live_cell, value_in, owed_at}
 use Rattle.core_steps.proofs.Owing.{is_written}
 use Rattle.core_steps.proofs.Runs.{other_after}

@@ -3,7 +3,10 @@ use Rattle.std.proofs.Common.{◌≡◌, ℕ, true, false, List, [], ◌∷◌, 
 use Rattle.std.specs.Prelude.{◌==◌}
 use Rattle.std.proofs.lemmas.Bool.{false≢true, true≢false, eqb-true, eqb-false, eq-eqb, or_cases, or_left, or_right}
 use Rattle.entity_recs.specs.Histories.{outcome}
-use Rattle.core_steps.specs.Views.{Point, Resolving, AtReading, AtClaiming, stage_of, is_busy, is_open, is_whole, is_settled, is_read_again, has, is_leaf, home, record_read, write_nodes}
+use Rattle.core_steps.specs.Nodes.{has, is_leaf, home, write_nodes}
+use Rattle.core_steps.specs.Points.{Point, Resolving, AtReading, AtClaiming, stage_of, is_busy, is_open, is_whole}
+use Rattle.core_steps.specs.Points.{is_settled, is_read_again}
+use Rattle.core_steps.specs.Reads.{record_read}
 use Rattle.core_steps.specs.Steps.{first, rest_of, view_after_claim}
 use Rattle.core_steps.specs.Laws.{ClaimedNodeStands}
 use Rattle.core_steps.proofs.Unyielding.{not_giving_up}

@@ -3,7 +3,11 @@ use Rattle.std.proofs.Common.{◌≡◌, ℕ, true, List, [], ◌∷◌, ◌++�
 use Rattle.entity_recs.specs.declared.effect.Effect.{Effect}
 use Rattle.entity_recs.specs.Worlds.{World}
 use Rattle.entity_recs.specs.Histories.{Item, outcome, apply}
-use Rattle.core_steps.specs.Views.{Fixed, Point, Resolving, Claiming, AtReading, AtClaiming, AtStoring, stage_of, is_settled, is_read_again, record_read, write_nodes, inner_held, holds, held_word}
+use Rattle.core_steps.specs.Nodes.{Fixed, write_nodes}
+use Rattle.core_steps.specs.Points.{Point, Resolving, Claiming, AtReading, AtClaiming, AtStoring, stage_of, is_settled}
+use Rattle.core_steps.specs.Points.{is_read_again}
+use Rattle.core_steps.specs.Reads.{record_read}
+use Rattle.core_steps.specs.Held.{inner_held, holds, held_word}
 use Rattle.core_steps.specs.Steps.{Core, item_at, commit}
 use Rattle.core_steps.specs.Stands.{IsStart, IsLawful, Stands}
 use Rattle.core_steps.specs.Laws.{CommittedHeldStands, CommittedFreeStands}

@@ -10,7 +10,12 @@ use Rattle.entity_recs.specs.Histories.{Item, entry_of, outcome, apply, run}
 use Rattle.areanode.specs.Words.{has_bit}
 use Rattle.core_steps.specs.Cells.{Words, Cell, Body, State, put, word_in, cell_of}
 use Rattle.core_steps.specs.Encoding.{words_of, nth_word}
-use Rattle.core_steps.specs.Views.{Fixed, Store, Stage, AtRest, AtOwning, AtTaking, AtChecking, AtReading, AtClaiming, AtStoring, AtReleasing, AtReturning, AtYielding, stage_of, is_busy, is_open, is_settled, is_committed, is_read_again, is_storing, Ended, View, has, home, record_read, region_in, write_nodes, inner_held, leaves_held, holds, held_word, stores_owed, list_at, state_at}
+use Rattle.core_steps.specs.Nodes.{Fixed, has, home, write_nodes}
+use Rattle.core_steps.specs.Points.{Store, Stage, AtRest, AtOwning, AtTaking, AtChecking, AtReading, AtClaiming}
+use Rattle.core_steps.specs.Points.{AtStoring, AtReleasing, AtReturning, AtYielding, stage_of, is_busy, is_open}
+use Rattle.core_steps.specs.Points.{is_settled, is_committed, is_read_again, is_storing, stores_owed}
+use Rattle.core_steps.specs.Reads.{Ended, View, record_read, region_in, list_at, state_at}
+use Rattle.core_steps.specs.Held.{inner_held, leaves_held, holds, held_word}
 use Rattle.core_steps.specs.Steps.{Core, item_at, view_after_commit, commit}
 use Rattle.core_steps.specs.Stands.{IsGiven, IsStart, IsLawful, IsLogWithin, LeavesAlone, IsLastItem, IsReadRight, IsResolved, SeatStands, SeatsApart, Stands, is_player, is_live_cell, value_in, touches_own, owed_at, is_storing_for}
 use Rattle.core_steps.proofs.Unyielding.{not_giving_up}

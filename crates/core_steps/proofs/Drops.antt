@@ -2,7 +2,9 @@
 use Rattle.std.proofs.Common.{◌≡◌, ℕ, true, false, List, [], ◌∷◌, refl, sym, ◌∙◌, inl, inr}
 use Rattle.std.specs.Prelude.{◌==◌, ◌||◌}
 use Rattle.std.proofs.lemmas.Bool.{true≢false, eq-eqb, or_cases, or_left, or_right, or_from, false_from_ne_true}
-use Rattle.core_steps.specs.Views.{Fixed, Stage, is_leaf, is_writing, has, held_word}
+use Rattle.core_steps.specs.Nodes.{Fixed, is_leaf, has}
+use Rattle.core_steps.specs.Points.{Stage, is_writing}
+use Rattle.core_steps.specs.Held.{held_word}
 use Rattle.core_steps.specs.Stands.{IsHolding}
 use Rattle.core_steps.proofs.Puts.{eqb_sym}
 

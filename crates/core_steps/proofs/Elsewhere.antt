@@ -12,7 +12,9 @@ use Rattle.entity_recs.specs.Worlds.{World, others_of}
 use Rattle.entity_recs.specs.Histories.{Item, outcome, apply}
 use Rattle.entity_recs.specs.Actions.{records_touching, is_of_one_inside}
 use Rattle.core_steps.specs.Cells.{Cell}
-use Rattle.core_steps.specs.Views.{Fixed, stage_of, is_settled, region_in, stores_owed, state_at}
+use Rattle.core_steps.specs.Nodes.{Fixed}
+use Rattle.core_steps.specs.Points.{stage_of, is_settled, stores_owed}
+use Rattle.core_steps.specs.Reads.{region_in, state_at}
 use Rattle.core_steps.specs.Steps.{Core}
 use Rattle.core_steps.specs.Stands.{IsStart, IsLawful, OwesRight, Stands, touches_own, owed_at}
 use Rattle.core_steps.proofs.Runs.{IsRunWorld, is_call, live_ordered, other_after, actor_after, world_after_one}

@@ -22,7 +22,14 @@ use Rattle.areanode.specs.Trees.{leaf_node, region_has_leaf, leaves_of}
 use Rattle.areanode.proofs.Words.{word_has_its_bits}
 use Rattle.areanode.proofs.Nodes.{inside_and_touched_share_a_leaf}
 use Rattle.core_steps.specs.Encoding.{words_of, nth_word, record_from}
-use Rattle.core_steps.specs.Views.{Fixed, Point, Idle, Owning, Taking, Checking, Entering, Entered, Loading, Leaving, Sensing, Resolving, Claiming, Storing, Releasing, Returning, Yielding, Stage, AtRest, AtOwning, AtTaking, AtChecking, AtReading, AtClaiming, AtStoring, AtReleasing, AtReturning, AtYielding, stage_of, is_busy, is_open, is_settled, is_committed, is_whole, is_storing, View, has, leaf_nodes, region_in, record_read, holds, leaves_held}
+use Rattle.core_steps.specs.Nodes.{Fixed, has, leaf_nodes}
+use Rattle.core_steps.specs.Points.{Point, Idle, Owning, Taking, Checking, Entering, Entered, Loading, Leaving, Sensing}
+use Rattle.core_steps.specs.Points.{Resolving, Claiming, Storing, Releasing, Returning, Yielding, Stage, AtRest}
+use Rattle.core_steps.specs.Points.{AtOwning, AtTaking, AtChecking, AtReading, AtClaiming, AtStoring, AtReleasing}
+use Rattle.core_steps.specs.Points.{AtReturning, AtYielding, stage_of, is_busy, is_open, is_settled, is_committed}
+use Rattle.core_steps.specs.Points.{is_whole, is_storing}
+use Rattle.core_steps.specs.Reads.{View, region_in, record_read}
+use Rattle.core_steps.specs.Held.{holds, leaves_held}
 use Rattle.core_steps.specs.Steps.{Core}
 use Rattle.core_steps.specs.Stands.{IsGiven, IsStart, IsLawful, HasOwn, Stands, touches_own}
 use Rattle.core_steps.proofs.Lists.{filter_has, range_has, shifted_has}

@@ -3,7 +3,9 @@ use Rattle.std.proofs.Common.{◌≡◌, ℕ, zero, suc, ◌^◌, ◌<◌, ◌�
 use Rattle.std.specs.Prelude.{◌==◌, filter}
 use Rattle.std.proofs.lemmas.Bool.{cases_Bool, true≢false, eqb-true, eq-eqb, not-true, or_left, or_parts, cond-true, cond-false}
 use Rattle.std.proofs.lemmas.List.{length-map}
-use Rattle.core_steps.specs.Views.{PlayerRead, stage_of, is_whole, has, region_in}
+use Rattle.core_steps.specs.Nodes.{has}
+use Rattle.core_steps.specs.Points.{stage_of, is_whole}
+use Rattle.core_steps.specs.Reads.{PlayerRead, region_in}
 use Rattle.core_steps.specs.Stands.{AreDistinct}
 use Rattle.core_steps.specs.Machine.{slots_of}
 use Rattle.core_steps.specs.MachineLaws.{EachViewReadsLittle}

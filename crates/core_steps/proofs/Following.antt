@@ -3,7 +3,10 @@ use Rattle.std.proofs.Common.{◌≡◌, ℕ, suc, true, false, [], ◌∷◌, �
 use Rattle.std.specs.Prelude.{◌==◌, if◌then◌else◌}
 use Rattle.std.proofs.lemmas.Bool.{cases_Bool, cond-true, cond-false}
 use Rattle.core_steps.specs.Cells.{Words, Cell, Body, State, put, word_in, with_word, cell_of, with_bit, without_bit}
-use Rattle.core_steps.specs.Views.{Fixed, Store, Clear, Put, Link, AtClaiming, View, stage_of, held_word, without_command, leaves_held, inner_held}
+use Rattle.core_steps.specs.Nodes.{Fixed}
+use Rattle.core_steps.specs.Points.{Store, Clear, Put, Link, AtClaiming, stage_of}
+use Rattle.core_steps.specs.Reads.{View, without_command}
+use Rattle.core_steps.specs.Held.{held_word, leaves_held, inner_held}
 use Rattle.core_steps.specs.Steps.{Core, words_after_store, point_after_take, view_after_take, take_node, view_after_claim, claim_node, view_after_refusal, refuse_node, view_after_give}
 use Rattle.core_steps.specs.Steps.{yielded, view_after_list, view_after_begin, view_after_own, view_after_again, player_loaded, view_after_state, view_after_commit, storing}
 use Rattle.core_steps.specs.Machine.{Next, Begin, LoadOwn, LoadAgain, TakeNode, ClaimNode, ReadList, ReadPlayer, ReadState, CommitMove, StoreWord, GiveNode, YieldNode, YieldCount, core_after, word_of_store, word_of_next}

@@ -6,7 +6,10 @@ use Rattle.std.proofs.lemmas.Bool.{cases_Bool, eqb-true, true≢false, false≢t
 use Rattle.entity_recs.specs.Worlds.{World}
 use Rattle.entity_recs.specs.Histories.{Item}
 use Rattle.core_steps.specs.Cells.{Words, Cell, put}
-use Rattle.core_steps.specs.Views.{Fixed, Store, stage_of, is_busy, View, Ended, spent, nodes_of, holds, stores_owed}
+use Rattle.core_steps.specs.Nodes.{Fixed, nodes_of}
+use Rattle.core_steps.specs.Points.{Store, stage_of, is_busy, stores_owed}
+use Rattle.core_steps.specs.Reads.{View, Ended, spent}
+use Rattle.core_steps.specs.Held.{holds}
 use Rattle.core_steps.specs.Steps.{Core}
 use Rattle.core_steps.specs.Stands.{owed_at, IsLogWithin, is_ended, log_of, items_below, items_of, IsNumbered, SeatStands, SeatsApart, is_storing_for, Stands}
 use Rattle.core_steps.proofs.Puts.{each_put, put_same, put_other, kept_put, eqb_sym}

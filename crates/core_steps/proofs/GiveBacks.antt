@@ -4,7 +4,13 @@ use Rattle.std.specs.Prelude.{◌==◌, ◌||◌, ◌&&◌}
 use Rattle.std.proofs.lemmas.Bool.{false≢true, or_left, cond-false}
 use Rattle.entity_recs.specs.Worlds.{World}
 use Rattle.entity_recs.specs.Histories.{Item}
-use Rattle.core_steps.specs.Views.{Fixed, Point, Idle, Owning, Taking, Checking, Entering, Entered, Loading, Leaving, Sensing, Resolving, Claiming, Storing, Releasing, Returning, Yielding, Stage, AtTaking, AtReading, AtClaiming, AtReleasing, AtReturning, AtYielding, stage_of, is_busy, is_settled, is_whole, is_storing, is_writing, has, inner_held, leaves_held, is_leaf, visited_node, stores_owed, without_command}
+use Rattle.core_steps.specs.Nodes.{Fixed, has, is_leaf}
+use Rattle.core_steps.specs.Points.{Point, Idle, Owning, Taking, Checking, Entering, Entered, Loading, Leaving, Sensing}
+use Rattle.core_steps.specs.Points.{Resolving, Claiming, Storing, Releasing, Returning, Yielding, Stage, AtTaking}
+use Rattle.core_steps.specs.Points.{AtReading, AtClaiming, AtReleasing, AtReturning, AtYielding, stage_of, is_busy}
+use Rattle.core_steps.specs.Points.{is_settled, is_whole, is_storing, is_writing, stores_owed}
+use Rattle.core_steps.specs.Reads.{without_command}
+use Rattle.core_steps.specs.Held.{inner_held, leaves_held, visited_node}
 use Rattle.core_steps.specs.Steps.{Core, with_node, visiting, returning, yielded, rest_of, first, first_of_two, next_give, view_after_give, is_taking}
 use Rattle.core_steps.specs.Stands.{IsHolding, IsReadRight, IsResolved, Stands}
 use Rattle.core_steps.specs.Laws.{GivenNodeStands, YieldedNodeStands, YieldedNothingStands}

@@ -4,7 +4,8 @@ use Rattle.std.specs.List.{range_with_len}
 use Rattle.std.proofs.lemmas.Bool.{ne_eqb}
 use Rattle.std.proofs.lemmas.List.FromFn.{map-range_with_len_more}
 use Rattle.core_steps.specs.Cells.{put}
-use Rattle.core_steps.specs.Views.{Fixed, Ended, View, new_view}
+use Rattle.core_steps.specs.Nodes.{Fixed}
+use Rattle.core_steps.specs.Reads.{Ended, View, new_view}
 use Rattle.core_steps.specs.Steps.{Core, make_seat}
 use Rattle.core_steps.specs.Stands.{start_core}
 use Rattle.core_steps.specs.Machine.{Machine, Next, next_of, core_after}

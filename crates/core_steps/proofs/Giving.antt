@@ -5,7 +5,11 @@ use Rattle.std.proofs.lemmas.Bool.{cases_Bool, false≢true, true≢false, cond-
 use Rattle.entity_recs.specs.Worlds.{World}
 use Rattle.entity_recs.specs.Histories.{Item}
 use Rattle.core_steps.specs.Cells.{put}
-use Rattle.core_steps.specs.Views.{Fixed, Point, Returning, Yielding, ListRead, Stage, AtRest, AtClaiming, AtReturning, AtYielding, stage_of, is_busy, is_settled, is_storing, has, nodes_of, inner_held, leaves_held, holds, held_word, stores_owed, without_command}
+use Rattle.core_steps.specs.Nodes.{Fixed, has, nodes_of}
+use Rattle.core_steps.specs.Points.{Point, Returning, Yielding, Stage, AtRest, AtClaiming, AtReturning, AtYielding}
+use Rattle.core_steps.specs.Points.{stage_of, is_busy, is_settled, is_storing, stores_owed}
+use Rattle.core_steps.specs.Reads.{ListRead, without_command}
+use Rattle.core_steps.specs.Held.{inner_held, leaves_held, holds, held_word}
 use Rattle.core_steps.specs.Steps.{Core, with_node, returning, yielding, yielded, first_of_two}
 use Rattle.core_steps.specs.Stands.{IsAt, IsCurrent, IsHolding, IsReadStill, IsGivingUp, IsCounted, owed_at, part_of, Stands}
 use Rattle.core_steps.proofs.Puts.{put_other, eqb_sym}

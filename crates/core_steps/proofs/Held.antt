@@ -16,7 +16,12 @@ use Rattle.areanode.specs.Trees.{leaf_node, visited_of, leaves_of}
 use Rattle.areanode.proofs.Nodes.{node_is_in_range, touched_leaf_is_listed}
 use Rattle.core_steps.specs.Cells.{Body, State}
 use Rattle.core_steps.specs.Encoding.{words_of, nth_word}
-use Rattle.core_steps.specs.Views.{Fixed, Store, Clear, Put, Link, Point, Idle, Owning, Taking, Checking, Entering, Entered, Loading, Leaving, Sensing, Resolving, Claiming, Storing, Releasing, Returning, Yielding, stage_of, is_whole, is_settled, is_storing, has, is_leaf, inner_nodes, leaf_nodes, inner_visited, plan_of, home, region_in, record_read, body_stores, stores_owed, leaves_held, holds}
+use Rattle.core_steps.specs.Nodes.{Fixed, has, is_leaf, inner_nodes, leaf_nodes, inner_visited, plan_of, home}
+use Rattle.core_steps.specs.Points.{Store, Clear, Put, Link, Point, Idle, Owning, Taking, Checking, Entering, Entered}
+use Rattle.core_steps.specs.Points.{Loading, Leaving, Sensing, Resolving, Claiming, Storing, Releasing, Returning}
+use Rattle.core_steps.specs.Points.{Yielding, stage_of, is_whole, is_settled, is_storing, body_stores, stores_owed}
+use Rattle.core_steps.specs.Reads.{region_in, record_read}
+use Rattle.core_steps.specs.Held.{leaves_held, holds}
 use Rattle.core_steps.specs.Steps.{Core}
 use Rattle.core_steps.specs.Stands.{IsStart, IsLawful, Stands, owed_at, is_linked_at}
 use Rattle.core_steps.proofs.Puts.{eqb_sym}

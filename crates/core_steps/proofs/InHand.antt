@@ -7,7 +7,11 @@ use Rattle.entity_recs.specs.Commands.{Command}
 use Rattle.entity_recs.specs.Worlds.{World}
 use Rattle.entity_recs.specs.Histories.{Item}
 use Rattle.core_steps.specs.Cells.{put, word_in, cell_of}
-use Rattle.core_steps.specs.Views.{Fixed, Point, Idle, Owning, Taking, Checking, Entering, Entered, Loading, Leaving, Sensing, Resolving, Claiming, Storing, Releasing, Returning, Yielding, stage_of, is_busy, View, record_read, write_nodes, effect_loaded, leaf_nodes, plan_of, region_in, inner_held, leaves_held, without_command, without_player}
+use Rattle.core_steps.specs.Nodes.{Fixed, write_nodes, leaf_nodes, plan_of}
+use Rattle.core_steps.specs.Points.{Point, Idle, Owning, Taking, Checking, Entering, Entered, Loading, Leaving, Sensing}
+use Rattle.core_steps.specs.Points.{Resolving, Claiming, Storing, Releasing, Returning, Yielding, stage_of, is_busy}
+use Rattle.core_steps.specs.Reads.{View, record_read, effect_loaded, region_in, without_command, without_player}
+use Rattle.core_steps.specs.Held.{inner_held, leaves_held}
 use Rattle.core_steps.specs.Steps.{Core, rest_of, first_yield, next_give, is_taking, returning, released, yielding, yielded, visiting, loading, storing, owned, checked, player_loaded, take_node, claim_node, refuse_node, view_after_begin, view_after_take, view_after_claim, view_after_refusal, view_after_list, view_after_state, view_after_commit, view_after_give}
 use Rattle.core_steps.specs.Machine.{Machine, Next, Begin, LoadOwn, LoadAgain, TakeNode, ClaimNode, ReadList, ReadPlayer, ReadState, CommitMove, StoreWord, GiveNode, YieldNode, YieldCount, giving, quitting, beginning, resolving, committing, next_at, next_of, core_after, machine_after, MachineStands}
 use Rattle.core_steps.specs.MachineLaws.{hand_of, in_hand, StepsBringNoCommand}

@@ -8,7 +8,13 @@ use Rattle.entity_recs.specs.Commands.{Command}
 use Rattle.entity_recs.specs.Worlds.{World}
 use Rattle.entity_recs.specs.Histories.{Item, commands_of}
 use Rattle.core_steps.specs.Cells.{put, word_in, cell_of}
-use Rattle.core_steps.specs.Views.{Fixed, Store, Point, Idle, Owning, Taking, Checking, Entering, Entered, Loading, Leaving, Sensing, Resolving, Claiming, Storing, Releasing, Returning, Yielding, AtReading, stage_of, View, without_command, record_read, write_nodes, effect_loaded, leaf_nodes, plan_of, region_in, players_in, without_player, inner_held, leaves_held}
+use Rattle.core_steps.specs.Nodes.{Fixed, write_nodes, leaf_nodes, plan_of}
+use Rattle.core_steps.specs.Points.{Store, Point, Idle, Owning, Taking, Checking, Entering, Entered, Loading, Leaving}
+use Rattle.core_steps.specs.Points.{Sensing, Resolving, Claiming, Storing, Releasing, Returning, Yielding, AtReading}
+use Rattle.core_steps.specs.Points.{stage_of}
+use Rattle.core_steps.specs.Reads.{View, without_command, record_read, effect_loaded, region_in, players_in}
+use Rattle.core_steps.specs.Reads.{without_player}
+use Rattle.core_steps.specs.Held.{inner_held, leaves_held}
 use Rattle.core_steps.specs.Steps.{Core, rest_of, first_yield, next_give, is_taking, returning, released, yielding, yielded, visiting, loading, sensing, taking, storing, owned, checked, player_loaded, take_node, claim_node, refuse_node, view_after_take, view_after_claim, view_after_refusal, view_after_list, view_after_state, view_after_commit, view_after_give}
 use Rattle.core_steps.specs.Stands.{IsStart, IsLawful}
 use Rattle.core_steps.specs.Machine.{Machine, Next, Begin, LoadOwn, LoadAgain, TakeNode, ClaimNode, ReadList, ReadPlayer, ReadState, CommitMove, StoreWord, GiveNode, YieldNode, YieldCount, next_at, next_of, quitting, resolving, committing, giving, core_after, machine_after, items_after, MachineStands}

@@ -4,7 +4,11 @@ use Rattle.std.specs.Prelude.{◌==◌, ◌||◌, ◌&&◌, is_some}
 use Rattle.std.specs.List.{range_with_len}
 use Rattle.std.proofs.lemmas.Bool.{cases_Bool, false≢true, true≢false, eqb-true, eqb-false, eq-eqb, and_parts, and_from, or_cases, or_left, or_right, or_from, cond-true, cond-false, not_from_false, not-true}
 use Rattle.areanode.specs.Words.{has_bit}
-use Rattle.core_steps.specs.Views.{Fixed, Point, Entered, Leaving, Stage, AtReading, stage_of, is_busy, is_settled, is_storing, is_committed, is_without_effect, ListRead, View, has, is_leaf, inner_held, leaves_held, holds, visited_node, list_at, players_in, plan_of, region_in, home, stores_owed, held_word}
+use Rattle.core_steps.specs.Nodes.{Fixed, has, is_leaf, plan_of, home}
+use Rattle.core_steps.specs.Points.{Point, Entered, Leaving, Stage, AtReading, stage_of, is_busy, is_settled}
+use Rattle.core_steps.specs.Points.{is_storing, is_committed, is_without_effect, stores_owed}
+use Rattle.core_steps.specs.Reads.{ListRead, View, list_at, players_in, region_in}
+use Rattle.core_steps.specs.Held.{inner_held, leaves_held, holds, visited_node, held_word}
 use Rattle.core_steps.specs.Steps.{loading, visiting, view_after_list}
 use Rattle.core_steps.specs.Stands.{OwesRight, IsCounted, HasOwn, IsUnread, IsReadRight, IsResolved, IsAt, HasRead, IsLoadable, IsHolding, is_present, part_of}
 use Rattle.core_steps.specs.Laws.{LoadedListStands}

@@ -6,7 +6,7 @@ use Rattle.std.proofs.lemmas.Bool.{true≢false, cond-true}
 use Rattle.std.proofs.lemmas.List.Sorted.{IsPermutation-trans, IsPermutation-append_left}
 use Rattle.entity_recs.specs.Histories.{Item}
 use Rattle.core_steps.specs.Cells.{put}
-use Rattle.core_steps.specs.Views.{Ended, View, spent}
+use Rattle.core_steps.specs.Reads.{Ended, View, spent}
 use Rattle.core_steps.specs.Stands.{IsNumbered, is_ended, ended_log, log_of, items_below, items_of}
 use Rattle.core_steps.proofs.Puts.{each_put, put_same, put_other, kept_put}
 use Rattle.core_steps.proofs.Appending.{items_with}

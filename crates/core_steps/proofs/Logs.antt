@@ -4,7 +4,11 @@ use Rattle.std.specs.Prelude.{◌==◌, if◌then◌else◌}
 use Rattle.std.proofs.lemmas.Bool.{cases_Bool, cond-true, cond-false}
 use Rattle.entity_recs.specs.Histories.{Item}
 use Rattle.core_steps.specs.Cells.{put, word_in, cell_of}
-use Rattle.core_steps.specs.Views.{Fixed, Point, Idle, Owning, Taking, Checking, Entering, Entered, Loading, Leaving, Sensing, Resolving, Claiming, Storing, Releasing, Returning, Yielding, View, without_command, leaf_nodes, plan_of, region_in, leaves_held, inner_held, without_player}
+use Rattle.core_steps.specs.Nodes.{Fixed, leaf_nodes, plan_of}
+use Rattle.core_steps.specs.Points.{Point, Idle, Owning, Taking, Checking, Entering, Entered, Loading, Leaving, Sensing}
+use Rattle.core_steps.specs.Points.{Resolving, Claiming, Storing, Releasing, Returning, Yielding}
+use Rattle.core_steps.specs.Reads.{View, without_command, region_in, without_player}
+use Rattle.core_steps.specs.Held.{leaves_held, inner_held}
 use Rattle.core_steps.specs.Steps.{Core, rest_of, returning, released, yielding, yielded, visiting, loading, storing, owned, checked, player_loaded, item_at, take_node, claim_node, refuse_node, view_after_begin, view_after_take, view_after_claim, view_after_refusal, view_after_list, view_after_state, view_after_commit, view_after_give}
 use Rattle.core_steps.specs.Machine.{Next, Begin, LoadOwn, LoadAgain, TakeNode, ClaimNode, ReadList, ReadPlayer, ReadState, CommitMove, StoreWord, GiveNode, YieldNode, YieldCount, core_after, items_after}
 use Rattle.core_steps.specs.MachineLaws.{LogsGrowByCommits}

@@ -9,7 +9,9 @@ use Rattle.entity_recs.specs.Commands.{Command}
 use Rattle.entity_recs.specs.Worlds.{World}
 use Rattle.entity_recs.specs.Histories.{Item}
 use Rattle.core_steps.specs.Cells.{Words, put}
-use Rattle.core_steps.specs.Views.{Fixed, Store, Point, Idle, Releasing, Returning, Yielding, stage_of, is_busy, is_whole, View, is_leaf, has, ListRead, PlayerRead, things_in, region_in}
+use Rattle.core_steps.specs.Nodes.{Fixed, is_leaf, has}
+use Rattle.core_steps.specs.Points.{Store, Point, Idle, Releasing, Returning, Yielding, stage_of, is_busy, is_whole}
+use Rattle.core_steps.specs.Reads.{View, ListRead, PlayerRead, things_in, region_in}
 use Rattle.core_steps.specs.Steps.{sensing, visiting, loading, taking, storing, returning, yielding, released, yielded, rest_of, is_taking}
 use Rattle.core_steps.specs.Stands.{Stands}
 use Rattle.core_steps.specs.Machine.{Machine, IsPending, SomeIsLeft, HasNext, Fits, ViewFits, lists_ahead, states_ahead, MachineStands}

@@ -7,7 +7,13 @@ use Rattle.entity_recs.specs.Commands.{Command}
 use Rattle.entity_recs.specs.Worlds.{World}
 use Rattle.entity_recs.specs.Histories.{Item, run}
 use Rattle.core_steps.specs.Cells.{put, word_in, cell_of}
-use Rattle.core_steps.specs.Views.{has, Fixed, Store, Point, Idle, Owning, Taking, Checking, Entering, Entered, Loading, Leaving, Sensing, Resolving, Claiming, Storing, Releasing, Returning, Yielding, stage_of, is_busy, is_whole, View, without_command, record_read, write_nodes, effect_loaded, leaf_nodes, plan_of, region_in, players_in, inner_held, leaves_held, without_player, home, stores_of}
+use Rattle.core_steps.specs.Nodes.{has, Fixed, write_nodes, leaf_nodes, plan_of, home}
+use Rattle.core_steps.specs.Points.{Store, Point, Idle, Owning, Taking, Checking, Entering, Entered, Loading, Leaving}
+use Rattle.core_steps.specs.Points.{Sensing, Resolving, Claiming, Storing, Releasing, Returning, Yielding, stage_of}
+use Rattle.core_steps.specs.Points.{is_busy, is_whole, stores_of}
+use Rattle.core_steps.specs.Reads.{View, without_command, record_read, effect_loaded, region_in, players_in}
+use Rattle.core_steps.specs.Reads.{without_player}
+use Rattle.core_steps.specs.Held.{inner_held, leaves_held}
 use Rattle.core_steps.specs.Steps.{Core, item_at, commit, store_next, storing, yielded, view_after_refusal, view_after_take, view_after_claim, view_after_list, view_after_state, view_after_commit, first, first_yield, is_taking, next_take, next_give, point_after_take, view_after_give, view_after_own, view_after_again, player_loaded, take_node, refuse_node, claim_node, give_node, yield_node, visiting, loading, taking, rest_of, sensing}
 use Rattle.core_steps.specs.Stands.{IsStart, IsLawful, SeatStands, Stands, AreDistinct}
 use Rattle.core_steps.specs.Machine.{Machine, Next, Begin, LoadOwn, LoadAgain, TakeNode, ClaimNode, ReadList, ReadPlayer, ReadState, CommitMove, StoreWord, GiveNode, YieldNode, YieldCount, next_at, quitting, resolving, beginning, committing, giving, core_after, machine_after, items_after, SomeIsLeft, Fits, lists_ahead, states_ahead, slots_of, MachineStands}

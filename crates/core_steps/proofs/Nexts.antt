@@ -6,7 +6,11 @@ use Rattle.entity_recs.specs.declared.effect.Effect.{Effect}
 use Rattle.entity_recs.specs.Commands.{Command}
 use Rattle.entity_recs.specs.Worlds.{World}
 use Rattle.entity_recs.specs.Histories.{Item}
-use Rattle.core_steps.specs.Views.{Fixed, Point, Idle, Owning, Taking, Checking, Entering, Entered, Loading, Leaving, Sensing, Resolving, Claiming, Storing, Releasing, Returning, Yielding, stage_of, is_busy, is_whole, View, write_nodes, record_read, effect_loaded}
+use Rattle.core_steps.specs.Nodes.{Fixed, write_nodes}
+use Rattle.core_steps.specs.Points.{Point, Idle, Owning, Taking, Checking, Entering, Entered, Loading, Leaving, Sensing}
+use Rattle.core_steps.specs.Points.{Resolving, Claiming, Storing, Releasing, Returning, Yielding, stage_of, is_busy}
+use Rattle.core_steps.specs.Points.{is_whole}
+use Rattle.core_steps.specs.Reads.{View, record_read, effect_loaded}
 use Rattle.core_steps.specs.Steps.{first, first_of_two, first_yield, next_give, next_node, next_node_at, Waits}
 use Rattle.core_steps.specs.Machine.{Machine, Next, Begin, LoadOwn, LoadAgain, TakeNode, ReadList, ReadPlayer, ReadState, CommitMove, StoreWord, GiveNode, YieldNode, YieldCount, next_at, next_of, quitting, resolving, beginning, committing, giving, SomeIsLeft, MachineStands}
 use Rattle.core_steps.specs.Calls.{node_taken, IsWaiting}

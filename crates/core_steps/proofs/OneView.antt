@@ -2,7 +2,9 @@
 use Rattle.std.proofs.Common.{◌≡◌, ℕ, suc, ◌∙◌, Bool, true, false, [], ◌∷◌, ◌++◌, length, refl}
 use Rattle.std.specs.Prelude.{◌==◌, if◌then◌else◌}
 use Rattle.core_steps.specs.Cells.{put, word_in, cell_of}
-use Rattle.core_steps.specs.Views.{Fixed, View, new_view, spent, without_command, leaves_held, inner_held}
+use Rattle.core_steps.specs.Nodes.{Fixed}
+use Rattle.core_steps.specs.Reads.{View, new_view, spent, without_command}
+use Rattle.core_steps.specs.Held.{leaves_held, inner_held}
 use Rattle.core_steps.specs.Steps.{Core, with_ended, yielded, storing, player_loaded, take_node, claim_node, refuse_node, view_after_begin, view_after_own, view_after_again, view_after_take, view_after_claim, view_after_refusal, view_after_list, view_after_state, view_after_commit, view_after_give}
 use Rattle.core_steps.specs.Machine.{Next, Begin, LoadOwn, LoadAgain, TakeNode, ClaimNode, ReadList, ReadPlayer, ReadState, CommitMove, StoreWord, GiveNode, YieldNode, YieldCount, core_after}
 use Rattle.core_steps.specs.MachineLaws.{StepsChangeOneView}

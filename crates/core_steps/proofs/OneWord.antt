@@ -3,7 +3,8 @@ use Rattle.std.proofs.Common.{◌≡◌, ℕ, suc, ◌-◌, ◌/◌, ◌%◌, �
 use Rattle.std.specs.Prelude.{◌==◌, nat_lt, if◌then◌else◌}
 use Rattle.std.proofs.lemmas.Bool.{cases_Bool, eqb-true, eqb-false, ne_eqb, ltb-false, cond-true, cond-false}
 use Rattle.core_steps.specs.Cells.{Words, Cell, Body, State, put, with_word, with_bit, without_bit, count_index, node_index, links_index, body_index, state_index, cell_index, word_at}
-use Rattle.core_steps.specs.Views.{Store, Clear, Put, Link, AtClaiming, stage_of, held_word}
+use Rattle.core_steps.specs.Points.{Store, Clear, Put, Link, AtClaiming, stage_of}
+use Rattle.core_steps.specs.Held.{held_word}
 use Rattle.core_steps.specs.Steps.{Core, words_after_store, point_after_take, take_node, claim_node, refuse_node}
 use Rattle.core_steps.specs.Machine.{Next, Begin, LoadOwn, LoadAgain, TakeNode, ClaimNode, ReadList, ReadPlayer, ReadState, CommitMove, StoreWord, GiveNode, YieldNode, YieldCount, index_of_store, index_of, core_after}
 use Rattle.core_steps.specs.Calls.{node_taken}

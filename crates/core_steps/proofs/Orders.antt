@@ -7,7 +7,7 @@ use Rattle.std.proofs.lemmas.Bool.{eq-eqb, or_cases, or_left, or_right, leb-true
 use Rattle.arena_geo.specs.Bounds.{Bounds}
 use Rattle.areanode.specs.Words.{has_bit}
 use Rattle.areanode.specs.Trees.{leaves_of, visited_of}
-use Rattle.core_steps.specs.Views.{Fixed, has, is_leaf, inner_nodes, leaf_nodes, inner_visited, place_of}
+use Rattle.core_steps.specs.Nodes.{Fixed, has, is_leaf, inner_nodes, leaf_nodes, inner_visited, taking_order}
 use Rattle.core_steps.specs.Laws.{PlansComeInOrder}
 use Rattle.core_steps.proofs.Lists.{has_append, has_filter, has_range, has_shifted}
 use Rattle.core_steps.proofs.TreeNodes.{leaf_below}
@@ -67,13 +67,13 @@ pub plans_come_in_order : PlansComeInOrder
 plans_come_in_order F region =
     let leaves = leaf_nodes F region in
     let inner = inner_visited F region in
-    increasing (place_of F) (leaves ++ inner) (rises_through (place_of F) leaves inner
-    (rises_by (place_of F) leaves (leaf_nodes_rise F region) (λ a b a_there b_there less.
+    increasing (taking_order F) (leaves ++ inner) (rises_through (taking_order F) leaves inner
+    (rises_by (taking_order F) leaves (leaf_nodes_rise F region) (λ a b a_there b_there less.
     let first = place_of_leaf F a (leaf_is_leaf F region a a_there) in
     let second = place_of_leaf F b (leaf_is_leaf F region b b_there) in
     let least = leb-true (inner_nodes F) a (leaf_is_leaf F region a a_there) in
     rw (first, second) (omega arith)))
-    (rises_by (place_of F) inner (rises_filter (has_bit (visited_of F.tree.depth (leaves_of F.tree region))) (range_with_len 0 (inner_nodes F)) (rises_range 0 (inner_nodes F))) (λ a b a_there b_there less.
+    (rises_by (taking_order F) inner (rises_filter (has_bit (visited_of F.tree.depth (leaves_of F.tree region))) (range_with_len 0 (inner_nodes F)) (rises_range 0 (inner_nodes F))) (λ a b a_there b_there less.
     let first = place_of_inner F a (visited_is_inner F region a a_there) in
     let second = place_of_inner F b (visited_is_inner F region b b_there) in
     rw (first, second) (omega arith)))

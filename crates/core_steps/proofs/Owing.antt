@@ -7,7 +7,11 @@ use Rattle.entity_recs.specs.declared.effect.Effect.{Effect}
 use Rattle.entity_recs.specs.Commands.{Command}
 use Rattle.core_steps.specs.Cells.{Cell, Body, State, is_cell}
 use Rattle.core_steps.specs.Encoding.{words_of}
-use Rattle.core_steps.specs.Views.{Fixed, Store, Clear, Put, Link, Point, Idle, Owning, Taking, Checking, Entering, Entered, Loading, Leaving, Sensing, Resolving, Claiming, Storing, Releasing, Returning, Yielding, stage_of, is_settled, is_storing, ListRead, PlayerRead, record_read, home, body_stores, stores_of, stores_owed, state_at}
+use Rattle.core_steps.specs.Nodes.{Fixed, home}
+use Rattle.core_steps.specs.Points.{Store, Clear, Put, Link, Point, Idle, Owning, Taking, Checking, Entering, Entered}
+use Rattle.core_steps.specs.Points.{Loading, Leaving, Sensing, Resolving, Claiming, Storing, Releasing, Returning}
+use Rattle.core_steps.specs.Points.{Yielding, stage_of, is_settled, is_storing, body_stores, stores_of, stores_owed}
+use Rattle.core_steps.specs.Reads.{ListRead, PlayerRead, record_read, state_at}
 use Rattle.core_steps.specs.Stands.{IsAt, owed_at}
 
 -- a cell that an effect of this player writes: one of its five words, its state, or a listed state

@@ -16,7 +16,13 @@ use Rattle.areanode.specs.Trees.{leaf_node, leaves_of}
 use Rattle.areanode.proofs.Nodes.{box_has_a_leaf}
 use Rattle.core_steps.specs.Cells.{Body, State, cell_of, word_in, put}
 use Rattle.core_steps.specs.Encoding.{nth_word}
-use Rattle.core_steps.specs.Views.{Fixed, Point, Idle, Owning, Taking, Stage, AtRest, AtOwning, AtTaking, AtChecking, AtReading, AtClaiming, AtStoring, AtReleasing, AtReturning, AtYielding, stage_of, is_busy, is_open, is_whole, is_settled, is_storing, is_committed, is_without_effect, is_owning, is_before_leaves, View, has, is_leaf, leaf_nodes, region_in, holds, stores_owed, inner_nodes}
+use Rattle.core_steps.specs.Nodes.{Fixed, has, is_leaf, leaf_nodes, inner_nodes}
+use Rattle.core_steps.specs.Points.{Point, Idle, Owning, Taking, Stage, AtRest, AtOwning, AtTaking, AtChecking}
+use Rattle.core_steps.specs.Points.{AtReading, AtClaiming, AtStoring, AtReleasing, AtReturning, AtYielding, stage_of}
+use Rattle.core_steps.specs.Points.{is_busy, is_open, is_whole, is_settled, is_storing, is_committed, is_without_effect}
+use Rattle.core_steps.specs.Points.{is_owning, is_before_leaves, stores_owed}
+use Rattle.core_steps.specs.Reads.{View, region_in}
+use Rattle.core_steps.specs.Held.{holds}
 use Rattle.core_steps.specs.Steps.{Core, view_after_begin}
 use Rattle.core_steps.specs.Stands.{IsAt, IsGiven, HasOwn, AreDistinct, Stands, value_in, is_player, owed_at}
 use Rattle.core_steps.specs.Laws.{BegunMoveStands, LoadedOwnStands}

@@ -6,7 +6,7 @@ use Rattle.std.proofs.lemmas.List.Elements.{All-weaker}
 use Rattle.std.proofs.lemmas.List.Sorted.{IsPermutation-map}
 use Rattle.entity_recs.specs.Worlds.{World}
 use Rattle.entity_recs.specs.Histories.{Action, Item, IsLegal, places_of}
-use Rattle.core_steps.specs.Views.{Ended}
+use Rattle.core_steps.specs.Reads.{Ended}
 use Rattle.core_steps.specs.Stands.{IsLogWithin, items_of}
 use Rattle.core_steps.specs.MachineLaws.{EachPlaceIsLoggedOnce}
 

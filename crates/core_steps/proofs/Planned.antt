@@ -9,7 +9,8 @@ use Rattle.std.specs.List.{range_with_len}
 use Rattle.arena_geo.specs.Bounds.{Bounds}
 use Rattle.areanode.specs.Words.{has_bit}
 use Rattle.areanode.specs.Trees.{leaf_node, leaves_of, visited_of}
-use Rattle.core_steps.specs.Views.{has, Fixed, leaf_nodes, plan_of, without_player, PlayerRead, nodes_of, inner_nodes, inner_visited}
+use Rattle.core_steps.specs.Nodes.{has, Fixed, leaf_nodes, plan_of, nodes_of, inner_nodes, inner_visited}
+use Rattle.core_steps.specs.Reads.{without_player, PlayerRead}
 use Rattle.core_steps.specs.Machine.{slots_of}
 use Rattle.core_steps.proofs.Lists.{has_filter}
 

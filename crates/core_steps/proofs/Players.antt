@@ -8,7 +8,11 @@ use Rattle.entity_recs.specs.Worlds.{World}
 use Rattle.entity_recs.specs.Histories.{Item}
 use Rattle.core_steps.specs.Cells.{State, cell_of, word_in, put}
 use Rattle.core_steps.specs.Encoding.{words_of, nth_word}
-use Rattle.core_steps.specs.Views.{Fixed, Point, Loading, PlayerRead, Stage, AtReading, stage_of, is_busy, is_settled, is_storing, is_committed, is_without_effect, View, has, region_in, record_read, player_at, visited_node, leaves_held, holds, held_word, stores_owed, without_player}
+use Rattle.core_steps.specs.Nodes.{Fixed, has}
+use Rattle.core_steps.specs.Points.{Point, Loading, Stage, AtReading, stage_of, is_busy, is_settled, is_storing}
+use Rattle.core_steps.specs.Points.{is_committed, is_without_effect, stores_owed}
+use Rattle.core_steps.specs.Reads.{PlayerRead, View, region_in, record_read, player_at, without_player}
+use Rattle.core_steps.specs.Held.{visited_node, leaves_held, holds, held_word}
 use Rattle.core_steps.specs.Steps.{Core, loading}
 use Rattle.core_steps.specs.Stands.{OwesRight, IsStart, IsLawful, IsHolding, HasOwn, IsCounted, IsUnread, IsReadRight, IsResolved, is_present, part_of, Stands, touches_own}
 use Rattle.core_steps.specs.Laws.{LoadedPlayerStands}

@@ -6,7 +6,13 @@ use Rattle.entity_recs.specs.Worlds.{World}
 use Rattle.entity_recs.specs.Histories.{Item}
 use Rattle.entity_recs.specs.Commands.{Command}
 use Rattle.core_steps.specs.Cells.{Words}
-use Rattle.core_steps.specs.Views.{Fixed, Point, ListRead, Stage, AtReading, stage_of, is_busy, is_open, is_settled, is_committed, is_before_leaves, is_whole, is_owning, is_read_again, is_without_effect, is_storing, View, has, inner_held, leaves_held, is_leaf, things_in, region_in, holds, held_word, stores_owed, Idle, Owning, Taking, Checking, Entering, Entered, Loading, Leaving, Sensing, Resolving, Claiming, Storing, Releasing, Returning, Yielding}
+use Rattle.core_steps.specs.Nodes.{Fixed, has, is_leaf}
+use Rattle.core_steps.specs.Points.{Point, Stage, AtReading, stage_of, is_busy, is_open, is_settled, is_committed}
+use Rattle.core_steps.specs.Points.{is_before_leaves, is_whole, is_owning, is_read_again, is_without_effect, is_storing}
+use Rattle.core_steps.specs.Points.{stores_owed, Idle, Owning, Taking, Checking, Entering, Entered, Loading, Leaving}
+use Rattle.core_steps.specs.Points.{Sensing, Resolving, Claiming, Storing, Releasing, Returning, Yielding}
+use Rattle.core_steps.specs.Reads.{ListRead, View, things_in, region_in}
+use Rattle.core_steps.specs.Held.{inner_held, leaves_held, holds, held_word}
 use Rattle.core_steps.specs.Steps.{visiting, sensing}
 use Rattle.core_steps.specs.Stands.{OwesRight, IsAt, IsCurrent, IsGivingUp, IsHolding, HasRead, HasSensed, SeatStands, is_present, part_of}
 

@@ -16,7 +16,11 @@ use Rattle.entity_recs.specs.Histories.{Item, outcome, apply, run}
 use Rattle.entity_recs.specs.Actions.{is_of_one_inside}
 use Rattle.areanode.specs.Words.{has_bit}
 use Rattle.core_steps.specs.Cells.{Cell, Body, State, word_in}
-use Rattle.core_steps.specs.Views.{Fixed, Stage, AtRest, AtOwning, AtTaking, AtChecking, AtReading, AtClaiming, AtStoring, AtReleasing, AtReturning, AtYielding, stage_of, is_busy, is_settled, is_storing, is_committed, is_whole, View, has, region_in, record_read, home, stores_owed, state_at}
+use Rattle.core_steps.specs.Nodes.{Fixed, has, home}
+use Rattle.core_steps.specs.Points.{Stage, AtRest, AtOwning, AtTaking, AtChecking, AtReading, AtClaiming, AtStoring}
+use Rattle.core_steps.specs.Points.{AtReleasing, AtReturning, AtYielding, stage_of, is_busy, is_settled, is_storing}
+use Rattle.core_steps.specs.Points.{is_committed, is_whole, stores_owed}
+use Rattle.core_steps.specs.Reads.{View, region_in, record_read, state_at}
 use Rattle.core_steps.specs.Steps.{Core}
 use Rattle.core_steps.specs.Stands.{IsGiven, IsStart, IsLawful, LeavesAlone, Stands, value_in, touches_own, is_player, is_live_cell, owed_at}
 use Rattle.core_steps.proofs.Puts.{eqb_sym}

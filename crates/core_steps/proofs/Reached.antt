@@ -7,7 +7,9 @@ use Rattle.entity_recs.specs.Commands.{Command}
 use Rattle.entity_recs.specs.Worlds.{World}
 use Rattle.entity_recs.specs.Histories.{Item, run}
 use Rattle.core_steps.specs.Cells.{put}
-use Rattle.core_steps.specs.Views.{Fixed, Point, Idle, stage_of, is_whole, View, new_view, spent}
+use Rattle.core_steps.specs.Nodes.{Fixed}
+use Rattle.core_steps.specs.Points.{Point, Idle, stage_of, is_whole}
+use Rattle.core_steps.specs.Reads.{View, new_view, spent}
 use Rattle.core_steps.specs.Steps.{Core, is_taking, make_seat}
 use Rattle.core_steps.specs.Stands.{IsStart, IsLawful, Stands, start_core}
 use Rattle.core_steps.specs.Machine.{Machine, Next, next_of, items_after, IsPending, SomeIsLeft, ViewFits}

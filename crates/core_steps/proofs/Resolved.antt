@@ -16,7 +16,10 @@ use Rattle.areanode.specs.Words.{has_bit}
 use Rattle.areanode.specs.Trees.{leaf_node, visited_of, leaves_of}
 use Rattle.areanode.proofs.Nodes.{node_is_in_range, touched_leaf_is_listed, touched_node_is_visited}
 use Rattle.core_steps.specs.Encoding.{words_of, nth_word}
-use Rattle.core_steps.specs.Views.{Fixed, Point, Resolving, stage_of, is_settled, is_read_again, has, is_leaf, inner_nodes, leaf_nodes, inner_visited, plan_of, home, region_in, record_read, list_at, player_at, state_at, player_of, thing_of, record_loaded, near_loaded, effect_loaded}
+use Rattle.core_steps.specs.Nodes.{Fixed, has, is_leaf, inner_nodes, leaf_nodes, inner_visited, plan_of, home}
+use Rattle.core_steps.specs.Points.{Point, Resolving, stage_of, is_settled, is_read_again}
+use Rattle.core_steps.specs.Reads.{region_in, record_read, list_at, player_at, state_at, player_of, thing_of}
+use Rattle.core_steps.specs.Reads.{record_loaded, near_loaded, effect_loaded}
 use Rattle.core_steps.specs.Steps.{Core}
 use Rattle.core_steps.specs.Stands.{IsStart, IsLawful, Stands, is_player, value_in, touches_own}
 use Rattle.core_steps.proofs.Lists.{has_append, has_filter, filter_has, range_has}

@@ -4,7 +4,9 @@ use Rattle.std.proofs.lemmas.Bool.{false≢true}
 use Rattle.entity_recs.specs.Worlds.{World}
 use Rattle.entity_recs.specs.Histories.{Item}
 use Rattle.core_steps.specs.Cells.{Words}
-use Rattle.core_steps.specs.Views.{Fixed, AtRest, View, without_command}
+use Rattle.core_steps.specs.Nodes.{Fixed}
+use Rattle.core_steps.specs.Points.{AtRest}
+use Rattle.core_steps.specs.Reads.{View, without_command}
 use Rattle.core_steps.specs.Stands.{IsCounted, IsHolding, SeatStands, SeatsApart}
 use Rattle.core_steps.proofs.Unyielding.{not_giving_up}
 

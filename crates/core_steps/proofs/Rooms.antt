@@ -6,7 +6,7 @@ use Rattle.std.proofs.lemmas.List.Elements.{All-head, All-tail}
 use Rattle.std.proofs.lemmas.List.FromFn.{sum_by-map-range_with_len_more}
 use Rattle.std.proofs.lemmas.List.Sorted.{length_permutation}
 use Rattle.entity_recs.specs.Histories.{Item}
-use Rattle.core_steps.specs.Views.{Ended}
+use Rattle.core_steps.specs.Reads.{Ended}
 use Rattle.core_steps.specs.Stands.{IsLogWithin, ended_log, log_of, items_below, items_of}
 use Rattle.core_steps.specs.MachineLaws.{ended_room, room_of, CountIsWithinTheRooms}
 

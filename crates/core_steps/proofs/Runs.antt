@@ -16,7 +16,7 @@ use Rattle.entity_recs.specs.Worlds.{World, others_of}
 use Rattle.entity_recs.specs.Histories.{Action, Item, outcome, with_new_state, apply, run}
 use Rattle.entity_recs.specs.Actions.{IsCall}
 use Rattle.entity_recs.proofs.Standing.{records_have_boxes}
-use Rattle.core_steps.specs.Views.{Fixed, has}
+use Rattle.core_steps.specs.Nodes.{Fixed, has}
 use Rattle.core_steps.specs.Stands.{IsGiven, IsStart, IsLawful}
 use Rattle.core_steps.proofs.Lists.{has_filter}
 

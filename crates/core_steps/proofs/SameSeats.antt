@@ -2,7 +2,11 @@
 use Rattle.std.proofs.Common.{◌≡◌, ℕ, Bool, true, false, List, [], ◌∷◌, ◌++◌, length, refl}
 use Rattle.std.specs.Prelude.{◌==◌, if◌then◌else◌}
 use Rattle.core_steps.specs.Cells.{word_in, cell_of}
-use Rattle.core_steps.specs.Views.{Fixed, Point, Idle, Owning, Taking, Checking, Entering, Entered, Loading, Leaving, Sensing, Resolving, Claiming, Storing, Releasing, Returning, Yielding, Ended, View, without_command, leaf_nodes, plan_of, region_in, leaves_held, inner_held, without_player}
+use Rattle.core_steps.specs.Nodes.{Fixed, leaf_nodes, plan_of}
+use Rattle.core_steps.specs.Points.{Point, Idle, Owning, Taking, Checking, Entering, Entered, Loading, Leaving, Sensing}
+use Rattle.core_steps.specs.Points.{Resolving, Claiming, Storing, Releasing, Returning, Yielding}
+use Rattle.core_steps.specs.Reads.{Ended, View, without_command, region_in, without_player}
+use Rattle.core_steps.specs.Held.{leaves_held, inner_held}
 use Rattle.core_steps.specs.Steps.{Core, rest_of, returning, released, yielding, yielded, visiting, loading, storing, owned, checked, player_loaded, take_node, claim_node, refuse_node, view_after_begin, view_after_take, view_after_claim, view_after_refusal, view_after_list, view_after_state, view_after_commit, view_after_give}
 use Rattle.core_steps.specs.Machine.{Next, Begin, LoadOwn, LoadAgain, TakeNode, ClaimNode, ReadList, ReadPlayer, ReadState, CommitMove, StoreWord, GiveNode, YieldNode, YieldCount, core_after}
 use Rattle.core_steps.proofs.Puts.{kept_put}

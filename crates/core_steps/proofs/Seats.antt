@@ -8,7 +8,10 @@ use Rattle.std.proofs.lemmas.List.Elements.{All-cons, All-weaker}
 use Rattle.entity_recs.specs.Worlds.{World}
 use Rattle.entity_recs.specs.Histories.{Item}
 use Rattle.core_steps.specs.Cells.{Words, Cell, put}
-use Rattle.core_steps.specs.Views.{Fixed, Idle, View, Ended, new_view, spent, holds, stores_owed}
+use Rattle.core_steps.specs.Nodes.{Fixed}
+use Rattle.core_steps.specs.Points.{Idle, stores_owed}
+use Rattle.core_steps.specs.Reads.{View, Ended, new_view, spent}
+use Rattle.core_steps.specs.Held.{holds}
 use Rattle.core_steps.specs.Steps.{with_ended}
 use Rattle.core_steps.specs.Stands.{IsLogWithin, ended_log, is_ended, log_of, items_below, items_of, IsNumbered, SeatStands, owed_at, is_storing_for}
 use Rattle.core_steps.specs.Laws.{MadeSeatStands, EndedSeatStands, EndedSeatKeepsItems, LoadedCountStands}

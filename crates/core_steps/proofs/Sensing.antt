@@ -4,7 +4,11 @@ use Rattle.std.specs.Prelude.{◌==◌, ◌||◌, ◌&&◌, is_some}
 use Rattle.std.proofs.lemmas.Bool.{cases_Bool, false≢true, true≢false, eqb-true, eq-eqb, or_right, or_from, cond-true, cond-false}
 use Rattle.entity_recs.specs.declared.effect.NewState.{NewState}
 use Rattle.core_steps.specs.Cells.{State}
-use Rattle.core_steps.specs.Views.{Point, Sensing, Stage, AtReading, stage_of, is_busy, is_settled, is_storing, is_committed, is_without_effect, has, leaves_held, holds, held_word, stores_owed, state_at}
+use Rattle.core_steps.specs.Nodes.{has}
+use Rattle.core_steps.specs.Points.{Point, Sensing, Stage, AtReading, stage_of, is_busy, is_settled, is_storing}
+use Rattle.core_steps.specs.Points.{is_committed, is_without_effect, stores_owed}
+use Rattle.core_steps.specs.Reads.{state_at}
+use Rattle.core_steps.specs.Held.{leaves_held, holds, held_word}
 use Rattle.core_steps.specs.Steps.{sensing}
 use Rattle.core_steps.specs.Stands.{OwesRight, IsHolding, HasOwn, IsCounted, IsUnread, IsReadRight, IsResolved}
 use Rattle.core_steps.specs.Laws.{LoadedStateStands}

@@ -5,7 +5,7 @@ use Rattle.std.proofs.lemmas.Bool.{lt-ltb, or_parts, cond-false}
 use Rattle.entity_recs.specs.declared.rec.Rec.{Rec}
 use Rattle.entity_recs.specs.Worlds.{record_with, nobody}
 use Rattle.core_steps.specs.Encoding.{words_of, nth_word}
-use Rattle.core_steps.specs.Views.{Fixed, has}
+use Rattle.core_steps.specs.Nodes.{Fixed, has}
 use Rattle.core_steps.specs.Stands.{is_player}
 
 -- an id that isn't among those of the records has the record of nobody

@@ -12,7 +12,9 @@ use Rattle.areanode.proofs.Words.{word_has_its_bits, word_of-same, word_of-none}
 use Rattle.core_steps.specs.Encoding.{words_of, nth_word}
 use Rattle.core_steps.proofs.TreeNodes.{home_in}
 use Rattle.core_steps.specs.Cells.{Cell, Body, State, word_in}
-use Rattle.core_steps.specs.Views.{Fixed, AtRest, View, Ended, new_view, spent, nodes_of, home, has}
+use Rattle.core_steps.specs.Nodes.{Fixed, nodes_of, home, has}
+use Rattle.core_steps.specs.Points.{AtRest}
+use Rattle.core_steps.specs.Reads.{View, Ended, new_view, spent}
 use Rattle.core_steps.specs.Stands.{IsCounted, IsLogWithin, IsGiven, items_below, items_of, IsNumbered, is_ended, value_in, SeatStands, SeatsApart, is_player, is_live_cell, AreUnusedZero, start_words, start_core}
 use Rattle.core_steps.specs.Laws.{StartStands}
 use Rattle.core_steps.proofs.Puts.{each_put}

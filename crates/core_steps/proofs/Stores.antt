@@ -8,7 +8,8 @@ use Rattle.areanode.specs.Words.{has_bit}
 use Rattle.areanode.proofs.Words.{word_has_its_bits}
 use Rattle.core_steps.specs.Cells.{Words, Cell, Body, State, put, is_cell, word_in, with_word, with_bit, without_bit}
 use Rattle.core_steps.specs.Encoding.{words_of}
-use Rattle.core_steps.specs.Views.{Fixed, Store, Clear, Put, Link, home, body_stores, stores_of}
+use Rattle.core_steps.specs.Nodes.{Fixed, home}
+use Rattle.core_steps.specs.Points.{Store, Clear, Put, Link, body_stores, stores_of}
 use Rattle.core_steps.specs.Stands.{is_linked_at}
 use Rattle.core_steps.proofs.Puts.{put_same, put_other, eqb_sym}
 use Rattle.core_steps.proofs.Held.{NoClear, no_clear_append, no_clear_body, no_clear_states}

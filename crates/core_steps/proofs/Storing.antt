@@ -9,7 +9,15 @@ use Rattle.areanode.specs.Trees.{node_of}
 use Rattle.areanode.specs.Words.{has_bit}
 use Rattle.std.specs.List.{range_with_len}
 use Rattle.core_steps.specs.Cells.{Words, Cell, Body, State, put, is_cell, word_in, with_word, with_bit, without_bit}
-use Rattle.core_steps.specs.Views.{Fixed, Store, Clear, Put, Link, Point, Idle, Owning, Taking, Checking, Entering, Entered, Loading, Leaving, Sensing, Resolving, Claiming, Storing, Releasing, Returning, Yielding, Stage, AtRest, AtOwning, AtTaking, AtChecking, AtReading, AtClaiming, AtStoring, AtReleasing, AtReturning, AtYielding, stage_of, is_busy, is_open, is_settled, is_committed, is_before_leaves, is_whole, is_owning, is_read_again, is_without_effect, is_storing, is_writing, Ended, View, has, is_leaf, inner_nodes, nodes_of, home, state_at, record_read, region_in, inner_held, leaves_held, holds, stores_owed}
+use Rattle.core_steps.specs.Nodes.{Fixed, has, is_leaf, inner_nodes, nodes_of, home}
+use Rattle.core_steps.specs.Points.{Store, Clear, Put, Link, Point, Idle, Owning, Taking, Checking, Entering, Entered}
+use Rattle.core_steps.specs.Points.{Loading, Leaving, Sensing, Resolving, Claiming, Storing, Releasing, Returning}
+use Rattle.core_steps.specs.Points.{Yielding, Stage, AtRest, AtOwning, AtTaking, AtChecking, AtReading, AtClaiming}
+use Rattle.core_steps.specs.Points.{AtStoring, AtReleasing, AtReturning, AtYielding, stage_of, is_busy, is_open}
+use Rattle.core_steps.specs.Points.{is_settled, is_committed, is_before_leaves, is_whole, is_owning, is_read_again}
+use Rattle.core_steps.specs.Points.{is_without_effect, is_storing, is_writing, stores_owed}
+use Rattle.core_steps.specs.Reads.{Ended, View, state_at, record_read, region_in}
+use Rattle.core_steps.specs.Held.{inner_held, leaves_held, holds}
 use Rattle.core_steps.specs.Steps.{Core, storing, store_next}
 use Rattle.core_steps.specs.Stands.{OwesRight, IsAt, IsStart, IsLawful, IsLogWithin, IsHolding, AreUnusedZero, IsCurrent, IsGivingUp, IsStoring, is_present, part_of, is_player, is_live_cell, value_in, owed_at, is_linked_at, is_storing_for, SeatStands, Stands}
 use Rattle.core_steps.specs.Laws.{StoredNextStands}

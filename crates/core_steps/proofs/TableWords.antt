@@ -18,7 +18,14 @@ use Rattle.entity_recs.proofs.Ids.{id_in}
 use Rattle.core_steps.specs.declared.sizes.TheConstants.{TABLE_NODES, TABLE_STATES, TABLE_WORDS}
 use Rattle.core_steps.specs.Cells.{Words, Cell, Body, State, word_in, cell_of, node_index, links_index, cell_index, word_at}
 use Rattle.core_steps.specs.Encoding.{words_of}
-use Rattle.core_steps.specs.Views.{Fixed, Store, Clear, Put, Link, Point, Idle, Owning, Taking, Checking, Entering, Entered, Loading, Leaving, Sensing, Resolving, Claiming, Storing, Releasing, Returning, Yielding, stage_of, is_busy, is_whole, is_storing, is_owning, View, has, inner_nodes, nodes_of, FitsTable, leaf_nodes, inner_visited, plan_of, home, region_in, record_read, effect_loaded, write_nodes, body_stores, stores_of, state_at, inner_held, leaves_held}
+use Rattle.core_steps.specs.Nodes.{Fixed, has, inner_nodes, nodes_of, FitsTable, leaf_nodes, inner_visited, plan_of}
+use Rattle.core_steps.specs.Nodes.{home, write_nodes}
+use Rattle.core_steps.specs.Points.{Store, Clear, Put, Link, Point, Idle, Owning, Taking, Checking, Entering, Entered}
+use Rattle.core_steps.specs.Points.{Loading, Leaving, Sensing, Resolving, Claiming, Storing, Releasing, Returning}
+use Rattle.core_steps.specs.Points.{Yielding, stage_of, is_busy, is_whole, is_storing, is_owning, body_stores}
+use Rattle.core_steps.specs.Points.{stores_of}
+use Rattle.core_steps.specs.Reads.{View, region_in, record_read, effect_loaded, state_at}
+use Rattle.core_steps.specs.Held.{inner_held, leaves_held}
 use Rattle.core_steps.specs.Steps.{Core, first, first_of_two, first_yield, next_give}
 use Rattle.core_steps.specs.Stands.{IsStart, IsLawful, IsGiven, is_player, is_live_cell, Stands}
 use Rattle.core_steps.specs.Laws.{UnusedWordsAreZero}

@@ -5,7 +5,12 @@ use Rattle.std.specs.List.{range_with_len}
 use Rattle.std.proofs.lemmas.Bool.{false≢true, eqb-true, eqb-false, eq-eqb, or_cases, or_left, or_right, cond-false, lt-leb}
 use Rattle.entity_recs.specs.Worlds.{World}
 use Rattle.entity_recs.specs.Histories.{Item}
-use Rattle.core_steps.specs.Views.{Fixed, Point, Idle, Owning, Taking, Checking, Entering, Entered, Loading, Leaving, Sensing, Resolving, Claiming, Storing, Releasing, Returning, Yielding, Stage, AtTaking, AtChecking, AtReading, AtClaiming, stage_of, is_whole, View, has, is_leaf, inner_nodes, inner_of_two, write_nodes, home, record_read, visited_node, held_word}
+use Rattle.core_steps.specs.Nodes.{Fixed, has, is_leaf, inner_nodes, inner_of_two, write_nodes, home}
+use Rattle.core_steps.specs.Points.{Point, Idle, Owning, Taking, Checking, Entering, Entered, Loading, Leaving, Sensing}
+use Rattle.core_steps.specs.Points.{Resolving, Claiming, Storing, Releasing, Returning, Yielding, Stage, AtTaking}
+use Rattle.core_steps.specs.Points.{AtChecking, AtReading, AtClaiming, stage_of, is_whole}
+use Rattle.core_steps.specs.Reads.{View, record_read}
+use Rattle.core_steps.specs.Held.{visited_node, held_word}
 use Rattle.core_steps.specs.Steps.{Core, with_node, taking, next_take, point_after_take, view_after_refusal}
 use Rattle.core_steps.specs.Stands.{AreDistinct, Stands}
 use Rattle.core_steps.specs.Laws.{TakenNodeStands, RefusedNodeStands}

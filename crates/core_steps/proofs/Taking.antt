@@ -6,7 +6,11 @@ use Rattle.entity_recs.specs.declared.effect.NewState.{NewState}
 use Rattle.entity_recs.specs.Worlds.{World}
 use Rattle.entity_recs.specs.Histories.{Item}
 use Rattle.core_steps.specs.Cells.{Words, put}
-use Rattle.core_steps.specs.Views.{Fixed, ListRead, PlayerRead, list_at, player_at, state_at, is_before_leaves, is_open, is_whole, is_without_effect, Point, Taking, Checking, AtTaking, AtChecking, stage_of, is_busy, is_storing, View, nodes_of, home, holds, held_word, stores_owed}
+use Rattle.core_steps.specs.Nodes.{Fixed, nodes_of, home}
+use Rattle.core_steps.specs.Points.{is_before_leaves, is_open, is_whole, is_without_effect, Point, Taking, Checking}
+use Rattle.core_steps.specs.Points.{AtTaking, AtChecking, stage_of, is_busy, is_storing, stores_owed}
+use Rattle.core_steps.specs.Reads.{ListRead, PlayerRead, list_at, player_at, state_at, View}
+use Rattle.core_steps.specs.Held.{holds, held_word}
 use Rattle.core_steps.specs.Steps.{Core, with_node}
 use Rattle.core_steps.specs.Stands.{SeatStands, owed_at, Stands}
 use Rattle.core_steps.proofs.Unyielding.{not_giving_up}

@@ -13,7 +13,9 @@ use Rattle.areanode.specs.Words.{has_bit}
 use Rattle.areanode.specs.Trees.{leaves_of}
 use Rattle.areanode.specs.Depths.{sizes_of_depth}
 use Rattle.areanode.proofs.Nodes.{node_is_in_range}
-use Rattle.core_steps.specs.Views.{Fixed, stage_of, is_whole, has, is_leaf, inner_nodes, nodes_of, leaf_nodes, home, region_in}
+use Rattle.core_steps.specs.Nodes.{Fixed, has, is_leaf, inner_nodes, nodes_of, leaf_nodes, home}
+use Rattle.core_steps.specs.Points.{stage_of, is_whole}
+use Rattle.core_steps.specs.Reads.{region_in}
 use Rattle.core_steps.specs.Steps.{Core}
 use Rattle.core_steps.specs.Stands.{Stands}
 use Rattle.core_steps.specs.Laws.{EachTreeFits}

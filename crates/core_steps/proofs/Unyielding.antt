@@ -5,7 +5,9 @@ use Rattle.entity_recs.specs.declared.effect.NewState.{NewState}
 use Rattle.entity_recs.specs.declared.effect.Effect.{Effect}
 use Rattle.entity_recs.specs.Commands.{Command}
 use Rattle.entity_recs.specs.Worlds.{World}
-use Rattle.core_steps.specs.Views.{Fixed, Point, Stage, AtYielding, stage_of, ListRead, PlayerRead}
+use Rattle.core_steps.specs.Nodes.{Fixed}
+use Rattle.core_steps.specs.Points.{Point, Stage, AtYielding, stage_of}
+use Rattle.core_steps.specs.Reads.{ListRead, PlayerRead}
 use Rattle.core_steps.specs.Stands.{IsGivingUp}
 
 -- the command is given up

@@ -8,7 +8,13 @@ use Rattle.entity_recs.specs.Worlds.{World}
 use Rattle.entity_recs.specs.Histories.{Item}
 use Rattle.areanode.specs.Words.{has_bit}
 use Rattle.areanode.specs.Trees.{leaves_of}
-use Rattle.core_steps.specs.Views.{Fixed, Point, Idle, Owning, Taking, Checking, Entering, Entered, Loading, Leaving, Sensing, Resolving, Claiming, Storing, Releasing, Returning, Yielding, stage_of, is_busy, is_whole, has, is_leaf, inner_nodes, leaf_nodes, inner_of_two, home, record_read, write_nodes, effect_loaded, region_in, holds, place_of}
+use Rattle.core_steps.specs.Nodes.{Fixed, has, is_leaf, inner_nodes, leaf_nodes, inner_of_two, home, write_nodes}
+use Rattle.core_steps.specs.Nodes.{taking_order}
+use Rattle.core_steps.specs.Points.{Point, Idle, Owning, Taking, Checking, Entering, Entered, Loading, Leaving, Sensing}
+use Rattle.core_steps.specs.Points.{Resolving, Claiming, Storing, Releasing, Returning, Yielding, stage_of, is_busy}
+use Rattle.core_steps.specs.Points.{is_whole}
+use Rattle.core_steps.specs.Reads.{record_read, effect_loaded, region_in}
+use Rattle.core_steps.specs.Held.{holds}
 use Rattle.core_steps.specs.Steps.{Core, first, next_node_at, next_node, Waits, SomeSeatGoesOn}
 use Rattle.core_steps.specs.Stands.{Stands}
 use Rattle.core_steps.specs.Laws.{NotAllWait, TakesComeInOrder}
@@ -61,14 +67,14 @@ two_rise F a b = rises_filter (λ node. (node == a) || (node == b)) (range_with_
 
 -- ---- the order of nodes
 
-pub place_of_leaf : (F : Fixed) (node : ℕ) → is_leaf F node ≡ true → place_of F node ≡ node - inner_nodes F
+pub place_of_leaf : (F : Fixed) (node : ℕ) → is_leaf F node ≡ true → taking_order F node ≡ node - inner_nodes F
 place_of_leaf F node leaf = cond-true (is_leaf F node) (node - inner_nodes F) (2 ^ F.tree.depth + node) leaf
 
-pub place_of_inner : (F : Fixed) (node : ℕ) → is_leaf F node ≡ false → place_of F node ≡ 2 ^ F.tree.depth + node
+pub place_of_inner : (F : Fixed) (node : ℕ) → is_leaf F node ≡ false → taking_order F node ≡ 2 ^ F.tree.depth + node
 place_of_inner F node inner = cond-false (is_leaf F node) (node - inner_nodes F) (2 ^ F.tree.depth + node) inner
 
 -- a leaf comes before each inner node
-pub leaf_first : (F : Fixed) (leaf node : ℕ) → is_leaf F leaf ≡ true → leaf < inner_nodes F + 2 ^ F.tree.depth → is_leaf F node ≡ false → place_of F leaf < place_of F node
+pub leaf_first : (F : Fixed) (leaf node : ℕ) → is_leaf F leaf ≡ true → leaf < inner_nodes F + 2 ^ F.tree.depth → is_leaf F node ≡ false → taking_order F leaf < taking_order F node
 leaf_first F leaf node is below inner =
     let a = place_of_leaf F leaf is in
     let b = place_of_inner F node inner in
@@ -77,10 +83,10 @@ leaf_first F leaf node is below inner =
 
 -- the place of each node that is held comes before that of the node that is taken next, and that one is in range
 pub record ComesNext (F : Fixed) (point : Point) (wanted : List ℕ) (node : ℕ) : Type 0 where
-  pub before : (v : ℕ) → holds F point wanted v ≡ true → place_of F v < place_of F node
-  pub most : place_of F node < 2 ^ F.tree.depth + inner_nodes F
+  pub before : (v : ℕ) → holds F point wanted v ≡ true → taking_order F v < taking_order F node
+  pub most : taking_order F node < 2 ^ F.tree.depth + inner_nodes F
 
-inner_most : (F : Fixed) (node : ℕ) → is_leaf F node ≡ false → place_of F node < 2 ^ F.tree.depth + inner_nodes F
+inner_most : (F : Fixed) (node : ℕ) → is_leaf F node ≡ false → taking_order F node < 2 ^ F.tree.depth + inner_nodes F
 inner_most F node inner =
     let is = place_of_inner F node inner in
     let below = leb-false (inner_nodes F) node inner in
@@ -248,7 +254,7 @@ takes_free F core history now j node is next none waits =
 
 -- a chain of waiting seats ends: each next node comes later, and there are so many places left
 from_seat : (F : Fixed) (core : Core) (history : List Item) (now : World) (left j : ℕ) → Stands F core history now → is_busy (stage_of (core.view j).point) ≡ true
-    → ((node : ℕ) → next_node F (core.view j) ≡ Some node → 2 ^ F.tree.depth + inner_nodes F ≤ left + place_of F node) → SomeSeatGoesOn F core
+    → ((node : ℕ) → next_node F (core.view j) ≡ Some node → 2 ^ F.tree.depth + inner_nodes F ≤ left + taking_order F node) → SomeSeatGoesOn F core
 from_seat F core history now zero j is busy enough = elim (cases_Option (next_node F (core.view j))) [
   | inl none ↦ record { seat = j; busy = busy; goes_on = takes_none F core j none }
   | inr some ↦

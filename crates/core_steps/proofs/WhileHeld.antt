@@ -4,7 +4,12 @@ use Rattle.std.proofs.lemmas.Bool.{false≢true, or_left}
 use Rattle.entity_recs.specs.declared.effect.NewState.{NewState}
 use Rattle.entity_recs.specs.Worlds.{World}
 use Rattle.entity_recs.specs.Histories.{Item}
-use Rattle.core_steps.specs.Views.{Fixed, Point, Idle, Owning, Taking, Checking, Entering, Entered, Loading, Leaving, Sensing, Resolving, Claiming, Storing, Releasing, Returning, Yielding, AtChecking, stage_of, is_open, is_settled, is_before_leaves, is_without_effect, ListRead, PlayerRead, View, list_at, player_at, state_at, leaves_held, home}
+use Rattle.core_steps.specs.Nodes.{Fixed, home}
+use Rattle.core_steps.specs.Points.{Point, Idle, Owning, Taking, Checking, Entering, Entered, Loading, Leaving, Sensing}
+use Rattle.core_steps.specs.Points.{Resolving, Claiming, Storing, Releasing, Returning, Yielding, AtChecking, stage_of}
+use Rattle.core_steps.specs.Points.{is_open, is_settled, is_before_leaves, is_without_effect}
+use Rattle.core_steps.specs.Reads.{ListRead, PlayerRead, View, list_at, player_at, state_at}
+use Rattle.core_steps.specs.Held.{leaves_held}
 use Rattle.core_steps.specs.Steps.{Core}
 use Rattle.core_steps.specs.Stands.{IsReadStill, Stands}
 use Rattle.core_steps.specs.Laws.{ReadIsRightWhileLeavesAreHeld}

@@ -6,11 +6,13 @@ use Rattle.entity_recs.specs.Commands.{Command}
 use Rattle.entity_recs.specs.Worlds.{World}
 use Rattle.entity_recs.specs.Histories.{Item}
 use Rattle.core_steps.specs.Cells.{put}
-use Rattle.core_steps.specs.Views.{Stage, AtRest, AtOwning, AtTaking, AtChecking, AtReading}
-use Rattle.core_steps.specs.Views.{AtClaiming, AtStoring, AtReleasing, AtReturning, AtYielding}
-use Rattle.core_steps.specs.Views.{Fixed}
-use Rattle.core_steps.specs.Views.{stage_of}
-use Rattle.core_steps.specs.Views.{is_busy, View, holds}
+use Rattle.core_steps.specs.Points.{Stage, AtRest, AtOwning, AtTaking, AtChecking, AtReading}
+use Rattle.core_steps.specs.Points.{AtClaiming, AtStoring, AtReleasing, AtReturning, AtYielding}
+use Rattle.core_steps.specs.Nodes.{Fixed}
+use Rattle.core_steps.specs.Points.{stage_of}
+use Rattle.core_steps.specs.Points.{is_busy}
+use Rattle.core_steps.specs.Reads.{View}
+use Rattle.core_steps.specs.Held.{holds}
 use Rattle.core_steps.specs.Steps.{Core, is_taking}
 use Rattle.core_steps.specs.Steps.{make_seat}
 use Rattle.core_steps.specs.Stands.{start_core}

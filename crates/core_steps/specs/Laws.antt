@@ -17,9 +17,13 @@ use Rattle.entity_recs.specs.declared.effect.Effect.{Effect}
 use Rattle.entity_recs.specs.Commands.{Command}
 use Rattle.entity_recs.specs.Worlds.{World}
 use Rattle.entity_recs.specs.Histories.{Item, apply}
-use Rattle.core_steps.specs.Views.{Store, Storing, Fixed, Resolving, Claiming, record_read, write_nodes, effect_loaded}
-use Rattle.core_steps.specs.Views.{Idle, Owning, Checking, Sensing, Loading, Entered, AtChecking, stage_of, is_busy}
-use Rattle.core_steps.specs.Views.{is_open, leaves_held, holds, place_of, plan_of, has, nodes_of, FitsTable}
+use Rattle.core_steps.specs.Nodes.{Fixed, write_nodes}
+use Rattle.core_steps.specs.Points.{Store, Storing, Resolving, Claiming}
+use Rattle.core_steps.specs.Reads.{record_read, effect_loaded}
+use Rattle.core_steps.specs.Points.{Idle, Owning, Checking, Sensing, Loading, Entered, AtChecking, stage_of, is_busy}
+use Rattle.core_steps.specs.Nodes.{taking_order, plan_of, has, nodes_of, FitsTable}
+use Rattle.core_steps.specs.Points.{is_open}
+use Rattle.core_steps.specs.Held.{leaves_held, holds}
 use Rattle.core_steps.specs.Steps.{store_next, item_at, commit, SomeSeatGoesOn, Core, first, claim_node, next_take}
 use Rattle.core_steps.specs.Steps.{take_node, refuse_node, next_give, give_node, is_taking, first_yield, yield_node}
 use Rattle.core_steps.specs.Steps.{yield_nothing, load_list, begin_move, load_own, load_again, load_player, load_state}
@@ -253,8 +257,8 @@ TakesComeInOrder =
     (F : Fixed) (core : Core) (history : List Item) (now : World) (i node held : ℕ) → Stands F core history now
     → next_node F (core.view i) ≡ Some node
     → holds F (core.view i).point (core.view i).wanted held ≡ true
-    → place_of F held < place_of F node
+    → taking_order F held < taking_order F node
 
 -- the nodes that are read for a region come in that order too
 abbrev pub PlansComeInOrder : Type 0
-PlansComeInOrder = (F : Fixed) (region : List Bounds) → IsStrictlyIncreasing (map (place_of F) (plan_of F region))
+PlansComeInOrder = (F : Fixed) (region : List Bounds) → IsStrictlyIncreasing (map (taking_order F) (plan_of F region))

@@ -1,7 +1,10 @@
 -- The definitions of the pure core: its words, a seat's view, its steps, and what they keep.
 pub mod Cells
 pub mod Encoding
-pub mod Views
+pub mod Nodes
+pub mod Points
+pub mod Reads
+pub mod Held
 pub mod Steps
 pub mod Stands
 pub mod Laws

@@ -13,13 +13,16 @@ use Rattle.core_steps.specs.declared.step.StepKind.TheVariants.{Take, GiveBack, 
 use Rattle.core_steps.specs.declared.step.StepKind.TheVariants.{Count}
 use Rattle.core_steps.specs.Cells.{Words, put, word_in, cell_of, count_index, node_index, links_index, cell_index}
 use Rattle.core_steps.specs.Cells.{state_index}
-use Rattle.core_steps.specs.Views as views
+use Rattle.core_steps.specs.Points as core_points
 use Rattle.entity_recs.specs.declared.effect.NewState.{NewState}
-use Rattle.core_steps.specs.Views.{ListRead, PlayerRead}
-use Rattle.core_steps.specs.Views.{Fixed, Point, Idle, Owning, Taking, Checking, Entering, Entered, Loading, Leaving}
-use Rattle.core_steps.specs.Views.{Sensing, Resolving, Claiming, Storing, Releasing, Returning, Yielding, stage_of}
-use Rattle.core_steps.specs.Views.{is_busy, is_whole, View, record_read, write_nodes, effect_loaded, nodes_of}
-use Rattle.core_steps.specs.Views.{has}
+use Rattle.core_steps.specs.Reads.{ListRead, PlayerRead}
+use Rattle.core_steps.specs.Nodes.{Fixed}
+use Rattle.core_steps.specs.Points.{Point, Idle, Owning, Taking, Checking, Entering, Entered, Loading, Leaving}
+use Rattle.core_steps.specs.Points.{Sensing, Resolving, Claiming, Storing, Releasing, Returning, Yielding, stage_of}
+use Rattle.core_steps.specs.Nodes.{write_nodes, nodes_of}
+use Rattle.core_steps.specs.Points.{is_busy, is_whole}
+use Rattle.core_steps.specs.Reads.{View, record_read, effect_loaded}
+use Rattle.core_steps.specs.Nodes.{has}
 use Rattle.core_steps.specs.Steps.{Core, item_at, take_node, claim_node, refuse_node, next_give, give_node, is_taking}
 use Rattle.core_steps.specs.Steps.{first_yield, yield_node, yield_nothing, load_list, begin_move, load_own, load_again}
 use Rattle.core_steps.specs.Steps.{load_player, load_state, commit, store_next}
@@ -52,7 +55,7 @@ pub data Next : Type 0 where
   -- the command is committed with this effect, where these write nodes are held
   CommitMove : Effect → List ℕ → Next
   -- with these write nodes held, the store is made, before the other stores
-  StoreWord : List ℕ → views.Store → List views.Store → Next
+  StoreWord : List ℕ → core_points.Store → List core_points.Store → Next
   -- a node is given back
   GiveNode : ℕ → Next
   -- a node is given back, with which giving up begins
@@ -120,16 +123,16 @@ next_of F m i =
 -- ---- as a step on one word
 
 -- the kind of a store that is owed
-abbrev pub kind_of_store : views.Store → StepKind
-kind_of_store (views.Clear node) = Bit
-kind_of_store (views.Put cell x) = Store
-kind_of_store (views.Link node) = Bit
+abbrev pub kind_of_store : core_points.Store → StepKind
+kind_of_store (core_points.Clear node) = Bit
+kind_of_store (core_points.Put cell x) = Store
+kind_of_store (core_points.Link node) = Bit
 
 -- the index of the word of a store that is owed
-abbrev pub index_of_store : views.Store → ℕ
-index_of_store (views.Clear node) = links_index node
-index_of_store (views.Put cell x) = cell_index cell
-index_of_store (views.Link node) = links_index node
+abbrev pub index_of_store : core_points.Store → ℕ
+index_of_store (core_points.Clear node) = links_index node
+index_of_store (core_points.Put cell x) = cell_index cell
+index_of_store (core_points.Link node) = links_index node
 
 -- the kind of what comes next
 abbrev pub kind_of : Next → StepKind
@@ -203,10 +206,10 @@ items_after core i (CommitMove e nodes) = item_at core.words.commits (core.view 
 items_after _ _ _ = []
 
 -- the word of a store
-abbrev pub word_of_store : Words → views.Store → ℕ
-word_of_store words (views.Clear node) = words.links node
-word_of_store words (views.Put cell x) = word_in words cell
-word_of_store words (views.Link node) = words.links node
+abbrev pub word_of_store : Words → core_points.Store → ℕ
+word_of_store words (core_points.Clear node) = words.links node
+word_of_store words (core_points.Put cell x) = word_in words cell
+word_of_store words (core_points.Link node) = words.links node
 
 -- the word of what comes next
 abbrev pub word_of_next : Words → View → Next → ℕ
@@ -227,10 +230,10 @@ word_of_next words view YieldCount = words.commits
 -- ---- words that are in use
 
 -- the store is to the list word of a node of the tree, or to a word of a live player or a live id
-abbrev pub IsStoreInUse : Fixed → views.Store → Type 0
-IsStoreInUse F (views.Clear node) = node < nodes_of F
-IsStoreInUse F (views.Put cell x) = is_live_cell F cell ≡ true
-IsStoreInUse F (views.Link node) = node < nodes_of F
+abbrev pub IsStoreInUse : Fixed → core_points.Store → Type 0
+IsStoreInUse F (core_points.Clear node) = node < nodes_of F
+IsStoreInUse F (core_points.Put cell x) = is_live_cell F cell ≡ true
+IsStoreInUse F (core_points.Link node) = node < nodes_of F
 
 -- the word of what comes next is the count, the word or the list word of a node of the tree, or one of a live player or a
 -- live id

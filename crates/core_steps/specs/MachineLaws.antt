@@ -10,10 +10,14 @@ use Rattle.core_steps.specs.Cells.{word_at}
 use Rattle.entity_recs.specs.Commands.{Command}
 use Rattle.entity_recs.specs.Worlds.{World}
 use Rattle.entity_recs.specs.Histories.{Item, run, commands_of, places_of}
-use Rattle.core_steps.specs.Views.{Fixed, Resolving, record_read}
-use Rattle.core_steps.specs.Views.{Loading, stage_of, is_busy, is_open}
-use Rattle.core_steps.specs.Views.{is_whole, nodes_of, FitsTable, holds, place_of}
-use Rattle.core_steps.specs.Views.{loaded_near, Ended, View}
+use Rattle.core_steps.specs.Nodes.{Fixed}
+use Rattle.core_steps.specs.Points.{Resolving}
+use Rattle.core_steps.specs.Reads.{record_read}
+use Rattle.core_steps.specs.Points.{Loading, stage_of, is_busy, is_open}
+use Rattle.core_steps.specs.Nodes.{nodes_of, FitsTable, taking_order}
+use Rattle.core_steps.specs.Points.{is_whole}
+use Rattle.core_steps.specs.Held.{holds}
+use Rattle.core_steps.specs.Reads.{loaded_near, Ended, View}
 use Rattle.core_steps.specs.Steps.{Core}
 use Rattle.core_steps.specs.Steps.{refuse_node, is_taking, make_seat, end_seat, load_count}
 use Rattle.core_steps.specs.Machine.{Next, Machine, MachineStands}
@@ -84,7 +88,7 @@ EachTakeComesLater =
     (F : Fixed) (m : Machine) (history : List Item) (now : World) (i node held : ℕ) (next : Next)
     → MachineStands F m history now → next_of F m i ≡ Some next → node_taken next ≡ Some node
     → holds F (m.core.view i).point (m.core.view i).wanted held ≡ true
-    → place_of F held < place_of F node
+    → taking_order F held < taking_order F node
 
 -- a step changes no word of the table but its own
 abbrev pub StepsChangeOneWord : Type 0

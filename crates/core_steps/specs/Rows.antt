@@ -6,7 +6,9 @@ use Rattle.entity_recs.specs.declared.rec.Rec.{Rec}
 use Rattle.entity_recs.specs.Bodies.{abs_of}
 use Rattle.entity_recs.specs.Commands.{Command}
 use Rattle.entity_recs.specs.Worlds.{zero_vector, world_of}
-use Rattle.core_steps.specs.Views.{Fixed, Owning, new_view}
+use Rattle.core_steps.specs.Nodes.{Fixed}
+use Rattle.core_steps.specs.Points.{Owning}
+use Rattle.core_steps.specs.Reads.{new_view}
 use Rattle.core_steps.specs.declared.step.StepKind.TheVariants.{Take, Load}
 use Rattle.core_steps.specs.Machine.{Machine, Begin, TakeNode, next_of, step_of}
 use Rattle.core_steps.specs.Calls.{start_machine, Call, Give, Go}

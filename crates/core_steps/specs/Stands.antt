@@ -16,14 +16,19 @@ use Rattle.entity_recs.specs.Actions.{IsCommand, HasValidity, HasLocality, HasFo
 use Rattle.areanode.specs.Words.{has_bit, word_of}
 use Rattle.core_steps.specs.Cells.{Words, Cell, Body, State, is_cell, word_in, cell_of}
 use Rattle.core_steps.specs.Encoding.{words_of, nth_word}
-use Rattle.core_steps.specs.Views.{Fixed, Store, Clear, Put, Link, Point, Idle, Owning, Taking, Checking, Entering}
-use Rattle.core_steps.specs.Views.{Entered, Loading, Leaving, Sensing, Resolving, Claiming, Storing, Releasing}
-use Rattle.core_steps.specs.Views.{Returning, Yielding, Stage, AtClaiming, stage_of, is_busy, is_open, is_settled}
-use Rattle.core_steps.specs.Views.{is_committed}
-use Rattle.core_steps.specs.Views.{is_before_leaves, is_whole, is_owning, is_read_again, is_without_effect, is_storing}
-use Rattle.core_steps.specs.Views.{ListRead, PlayerRead, Ended, View, new_view, spent, has, list_at, player_at}
-use Rattle.core_steps.specs.Views.{state_at, record_read, nodes_of, is_leaf, leaf_nodes, plan_of, home, region_in, things_in}
-use Rattle.core_steps.specs.Views.{write_nodes, stores_of, stores_owed, leaves_held, inner_held, holds, held_word}
+use Rattle.core_steps.specs.Nodes.{Fixed}
+use Rattle.core_steps.specs.Points.{Store, Clear, Put, Link, Point, Idle, Owning, Taking, Checking, Entering}
+use Rattle.core_steps.specs.Points.{Entered, Loading, Leaving, Sensing, Resolving, Claiming, Storing, Releasing}
+use Rattle.core_steps.specs.Points.{Returning, Yielding, Stage, AtClaiming, stage_of, is_busy, is_open, is_settled}
+use Rattle.core_steps.specs.Points.{is_committed}
+use Rattle.core_steps.specs.Points.{is_before_leaves, is_whole, is_owning, is_read_again, is_without_effect, is_storing}
+use Rattle.core_steps.specs.Nodes.{has}
+use Rattle.core_steps.specs.Reads.{ListRead, PlayerRead, Ended, View, new_view, spent, list_at, player_at}
+use Rattle.core_steps.specs.Nodes.{nodes_of, is_leaf, leaf_nodes, plan_of, home}
+use Rattle.core_steps.specs.Reads.{state_at, record_read, region_in, things_in}
+use Rattle.core_steps.specs.Nodes.{write_nodes}
+use Rattle.core_steps.specs.Points.{stores_of, stores_owed}
+use Rattle.core_steps.specs.Held.{leaves_held, inner_held, holds, held_word}
 use Rattle.core_steps.specs.Steps.{Core}
 
 -- ---- the world

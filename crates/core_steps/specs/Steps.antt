@@ -5,12 +5,20 @@ use Rattle.entity_recs.specs.declared.effect.Effect.{Effect}
 use Rattle.entity_recs.specs.Commands.{Command}
 use Rattle.entity_recs.specs.Histories.{Item, entry_of}
 use Rattle.core_steps.specs.Cells.{Words, put, word_in, with_word, cell_of, with_bit, without_bit}
-use Rattle.core_steps.specs.Views.{Fixed, Store, Clear, Put, Link, Point, Idle, Owning, Taking, Checking, Entering}
-use Rattle.core_steps.specs.Views.{Entered, Loading, Leaving, Sensing, Resolving, Claiming, Storing, Releasing}
-use Rattle.core_steps.specs.Views.{Returning, Yielding, AtClaiming, stage_of, is_busy, effect_loaded, holds, View}
-use Rattle.core_steps.specs.Views.{new_view, spent, without_command, leaf_nodes, plan_of, is_leaf, region_in}
-use Rattle.core_steps.specs.Views.{things_in, players_in, home, record_read, write_nodes, stores_of, inner_held}
-use Rattle.core_steps.specs.Views.{leaves_held, held_word, without_player}
+use Rattle.core_steps.specs.Nodes.{Fixed}
+use Rattle.core_steps.specs.Points.{Store, Clear, Put, Link, Point, Idle, Owning, Taking, Checking, Entering}
+use Rattle.core_steps.specs.Points.{Entered, Loading, Leaving, Sensing, Resolving, Claiming, Storing, Releasing}
+use Rattle.core_steps.specs.Points.{Returning, Yielding, AtClaiming, stage_of, is_busy}
+use Rattle.core_steps.specs.Reads.{effect_loaded, View}
+use Rattle.core_steps.specs.Held.{holds}
+use Rattle.core_steps.specs.Nodes.{leaf_nodes, plan_of, is_leaf}
+use Rattle.core_steps.specs.Reads.{new_view, spent, without_command, region_in}
+use Rattle.core_steps.specs.Nodes.{home, write_nodes}
+use Rattle.core_steps.specs.Points.{stores_of}
+use Rattle.core_steps.specs.Reads.{things_in, players_in, record_read}
+use Rattle.core_steps.specs.Held.{inner_held}
+use Rattle.core_steps.specs.Reads.{without_player}
+use Rattle.core_steps.specs.Held.{leaves_held, held_word}
 
 -- the words, and each seat's view by its number
 pub record Core : Type 0 where

@@ -7,7 +7,8 @@ use Rattle.std.proofs.lemmas.Bool.{cases_Bool, false≢true, cond-true, cond-fal
 use Rattle.std.proofs.lemmas.Option.{same_Some}
 use Rattle.entity_recs.specs.Commands.{Command}
 use Rattle.entity_recs.specs.Actions.{IsCommand}
-use Rattle.core_steps.specs.Views.{Fixed, stage_of, is_busy, has}
+use Rattle.core_steps.specs.Nodes.{Fixed, has}
+use Rattle.core_steps.specs.Points.{stage_of, is_busy}
 use Rattle.core_steps.specs.Machine.{Machine}
 use Rattle.core_steps.specs.Calls.{MayBeGiven, with_given}
 use Rattle.core_machine.proofs.Filled.{IsFilled}

@@ -19,7 +19,9 @@ use Rattle.core_machine.proofs.Filled.{IsFilled}
 use Rattle.core_trials.specs.Hands.{HasOwnCommands}
 use Rattle.std.specs.Option.{option_map}
 use Rattle.core_steps.specs.declared.step.Step.{Step}
-use Rattle.core_steps.specs.Views.{Fixed, View, Point, Idle, stage_of, is_busy, has}
+use Rattle.core_steps.specs.Nodes.{Fixed, has}
+use Rattle.core_steps.specs.Points.{Point, Idle, stage_of, is_busy}
+use Rattle.core_steps.specs.Reads.{View}
 use Rattle.core_steps.specs.Machine.{Machine, Next, next_of, next_step_of, step_of, machine_after}
 use Rattle.core_steps.proofs.Points.{idle_point, none_in_hand}
 

@@ -4,7 +4,7 @@ ghost use Rattle.entity_recs.specs.Commands.{command_of};
 ghost use Rattle.entity_recs.specs.Actions.{IsCommand};
 ghost use Rattle.areanode.specs.Trees.{TreeView, IsTreeDepth};
 ghost use Rattle.core_steps.specs.declared.sizes.TheConstants.{MOST_SEATS};
-ghost use Rattle.core_steps.specs.Views.{has};
+ghost use Rattle.core_steps.specs.Nodes.{has};
 ghost use Rattle.core_steps.specs.Stands.{IsStart};
 ghost use Rattle.core_seats.specs.Shown.{fixed_of};
 ghost use Rattle.core_trials.specs.ErrandCommands.{errand_command};

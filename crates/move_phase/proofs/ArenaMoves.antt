@@ -21,7 +21,7 @@ use Rattle.arena_outcomes.specs.Takes.{takes}
 use Rattle.arena_outcomes.proofs.Lawful.Worlds.{valid_is_taken}
 use Rattle.world_tree.specs.Live.{live_in, ids_of}
 use Rattle.world_tree.specs.Worlds.{WorldView, IsLinked}
-use Rattle.core_steps.specs.Views.{has}
+use Rattle.core_steps.specs.Nodes.{has}
 use Rattle.plain_server.specs.RecordsById.{world_of, records_in}
 use Rattle.plain_server.specs.Moving.{HasLivePlayer}
 use Rattle.plain_server.proofs.ById.{records_in-world_of}

@@ -12,7 +12,7 @@ use Rattle.move_journal.specs.Logs.{JournalView}
 use Rattle.move_journal.specs.ByPlace.{places_of, entries_in, HaveNumberedPlaces, IsByPlace}
 use Rattle.move_journal.specs.Merges.{IsRight, IsInOrder, HasNumbersApart, history_of}
 use Rattle.world_tree.specs.Worlds.{WorldView}
-use Rattle.core_steps.specs.Views.{Fixed}
+use Rattle.core_steps.specs.Nodes.{Fixed}
 use Rattle.move_phase.specs.Serving.{Rises, HaveServed, entries_from}
 use Rattle.move_phase.specs.Running.{HaveRun}
 use Rattle.move_phase.proofs.Serving.{all_of, journal_is, entries_history, entries_right, one_in_order, items_numbered, count_of_items}

@@ -5,7 +5,8 @@ use Rattle.std.specs.List.{range_with_len}
 use Rattle.std.proofs.lemmas.List.FromFn.{get_or-map-range_with_len, length-map-range_with_len}
 use Rattle.atomic_table.specs.Seated.{TableId}
 use Rattle.entity_recs.specs.Commands.{Command}
-use Rattle.core_steps.specs.Views.{Fixed, Idle}
+use Rattle.core_steps.specs.Nodes.{Fixed}
+use Rattle.core_steps.specs.Points.{Idle}
 use Rattle.ruled_words.specs.Passes.{PassView, IsPassOf, setting_of}
 use Rattle.ruled_words.specs.declared.setting.Setting.{Setting}
 use Rattle.region_locks.specs.NewPasses.{new_passes, other_pass}

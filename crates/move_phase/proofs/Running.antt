@@ -7,7 +7,7 @@ use Rattle.atomic_table.specs.Seated.{TableId}
 use Rattle.entity_recs.specs.declared.cmd.Cmd.{Cmd}
 use Rattle.entity_recs.specs.Commands.{Command, command_of}
 use Rattle.entity_recs.specs.Histories.{Item, commands_of}
-use Rattle.core_steps.specs.Views.{Fixed}
+use Rattle.core_steps.specs.Nodes.{Fixed}
 use Rattle.ruled_words.specs.Passes.{PassView}
 use Rattle.move_phase.specs.Serving.{served_by}
 use Rattle.move_phase.specs.Running.{MayServe, HasServed}

@@ -10,7 +10,7 @@ use Rattle.entity_recs.specs.Worlds as worlds
 use Rattle.entity_recs.specs.Histories.{Action, Item, apply, run, world_after}
 use Rattle.move_journal.specs.Lists.{IsWorldOf}
 use Rattle.world_tree.specs.Live.{record_at, live_in, ids_of, AreEntries}
-use Rattle.core_steps.specs.Views.{has}
+use Rattle.core_steps.specs.Nodes.{has}
 use Rattle.plain_server.specs.RecordsById.{world_of, records_in}
 
 -- the record at each place has that number, counted from this one

@@ -5,7 +5,7 @@ use Rattle.entity_recs.specs.Commands.{Command}
 use Rattle.entity_recs.specs.Histories.{Item, commands_of}
 use Rattle.move_journal.specs.Logs.{JournalView}
 use Rattle.world_tree.specs.Worlds.{WorldView}
-use Rattle.core_steps.specs.Views.{Fixed, has}
+use Rattle.core_steps.specs.Nodes.{Fixed, has}
 use Rattle.ruled_words.specs.Passes.{PassView, IsPassOf}
 use Rattle.region_locks.specs.Closing.{HasNoCommand, IsClosed}
 use Rattle.move_phase.specs.Serving.{served_by, entries_from}

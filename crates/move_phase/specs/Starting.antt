@@ -6,7 +6,7 @@ use Rattle.arena_map.specs.Validity.{IsValidWorld}
 use Rattle.arena_actions.specs.MapActions.{map_in, meaning_in, IsOfItsMap}
 use Rattle.arena_actions.specs.declared.map_action.MapAction.{MapAction}
 use Rattle.world_tree.specs.Worlds.{WorldView, IsLinked}
-use Rattle.core_steps.specs.Views.{Fixed}
+use Rattle.core_steps.specs.Nodes.{Fixed}
 use Rattle.ruled_words.specs.Starts.{fixed_by}
 use Rattle.ruled_words.specs.Passes.{PassView, TableView}
 use Rattle.move_phase.specs.Serving.{AreWorkers}

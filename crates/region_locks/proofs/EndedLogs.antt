@@ -13,7 +13,8 @@ use Rattle.entity_recs.specs.Histories.{Item, places_of}
 use Rattle.move_journal.specs.Lists.{IsWorldOf}
 use Rattle.world_tree.specs.Live.{live_in}
 use Rattle.world_tree.specs.Worlds.{WorldView}
-use Rattle.core_steps.specs.Views.{Fixed, Ended, View, has}
+use Rattle.core_steps.specs.Nodes.{Fixed, has}
+use Rattle.core_steps.specs.Reads.{Ended, View}
 use Rattle.core_steps.specs.Stands.{ended_log, is_ended, items_below}
 use Rattle.ruled_words.specs.Sights.{SightView, with_one_ended}
 use Rattle.ruled_words.specs.Going.{IsAtRest}

@@ -8,7 +8,8 @@ use Rattle.std.specs.List.{AllByRecursion}
 use Rattle.core_steps.specs.declared.sizes.TheConstants.{MOST_SEATS}
 use Rattle.atomic_table.specs.Seated.{TableId}
 use Rattle.move_journal.specs.Logs.{JournalView}
-use Rattle.core_steps.specs.Views.{Fixed, Refused}
+use Rattle.core_steps.specs.Nodes.{Fixed}
+use Rattle.core_steps.specs.Reads.{Refused}
 use Rattle.ruled_words.specs.Sights.{HeldWord, IsOneOf, Tally, tally_of_both, AreRefusalsServed, SightView, with_one_ended}
 use Rattle.ruled_words.specs.Going.{IsAtRest}
 use Rattle.ruled_words.specs.Passes.{PassView, RefusalIsListed, sight_of, IsPassOf}

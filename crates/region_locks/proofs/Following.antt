@@ -3,7 +3,8 @@ use Rattle.std.proofs.Common.{◌≡◌, ℕ, ◌+◌, ◌≤◌, length, arith,
 use Rattle.std.specs.Option.{option_map}
 use Rattle.atomic_table.specs.Seated.{TableId}
 use Rattle.entity_recs.specs.declared.effect.Effect.{Effect}
-use Rattle.core_steps.specs.Views.{Fixed, View}
+use Rattle.core_steps.specs.Nodes.{Fixed}
+use Rattle.core_steps.specs.Reads.{View}
 use Rattle.core_seats.specs.Going.{view_found}
 use Rattle.entity_recs.specs.Commands.{command_of}
 use Rattle.core_seats.specs.declared.seat.Seat as mirrors

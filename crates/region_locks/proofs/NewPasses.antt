@@ -12,7 +12,9 @@ use Rattle.entity_recs.specs.Commands.{Command}
 use Rattle.world_tree.specs.Worlds.{WorldView}
 use Rattle.core_seats.specs.Shown.{RulesView, fixed_of, IsRuled}
 use Rattle.ruled_words.specs.Starts.{rules_of}
-use Rattle.core_steps.specs.Views.{Fixed, Store, View}
+use Rattle.core_steps.specs.Nodes.{Fixed}
+use Rattle.core_steps.specs.Points.{Store}
+use Rattle.core_steps.specs.Reads.{View}
 use Rattle.core_steps.specs.Machine.{Next, Begin, beginning, index_of, IsPending}
 use Rattle.core_steps.proofs.Machines.{fits_none}
 use Rattle.ruled_words.specs.Going.{MayGo}

@@ -4,7 +4,11 @@ use Rattle.std.specs.Prelude.{not}
 use Rattle.std.proofs.lemmas.Bool.{cases_Bool, false≢true, eqb-true, cond-true, cond-false}
 use Rattle.entity_recs.specs.declared.effect.Effect.{Effect}
 use Rattle.entity_recs.specs.Commands.{Command}
-use Rattle.core_steps.specs.Views.{Fixed, Store, Point, Idle, Owning, Taking, Checking, Entering, Entered, Loading, Leaving, Sensing, Resolving, Claiming, Storing, Releasing, Returning, Yielding, View, Stage, AtReading, stage_of, is_busy, is_leaf, is_without_effect, is_before_leaves, players_in, region_in, things_in, record_read, write_nodes}
+use Rattle.core_steps.specs.Nodes.{Fixed, is_leaf, write_nodes}
+use Rattle.core_steps.specs.Points.{Store, Point, Idle, Owning, Taking, Checking, Entering, Entered, Loading, Leaving}
+use Rattle.core_steps.specs.Points.{Sensing, Resolving, Claiming, Storing, Releasing, Returning, Yielding, Stage}
+use Rattle.core_steps.specs.Points.{AtReading, stage_of, is_busy, is_without_effect, is_before_leaves}
+use Rattle.core_steps.specs.Reads.{View, players_in, region_in, things_in, record_read}
 use Rattle.core_steps.specs.Steps.{sensing, visiting, loading, taking, storing, returning, yielding, rest_of, first, view_after_give, point_after_take}
 use Rattle.core_steps.specs.Machine.{Next, Begin, LoadOwn, LoadAgain, TakeNode, ClaimNode, ReadList, ReadPlayer, ReadState, CommitMove, StoreWord, GiveNode, YieldNode, YieldCount, giving, beginning, committing, resolving}
 use Rattle.core_steps.specs.Calls.{is_pursued}

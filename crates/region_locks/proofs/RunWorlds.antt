@@ -10,7 +10,7 @@ use Rattle.entity_recs.specs.Worlds.{World}
 use Rattle.move_journal.specs.Lists.{IsWorldOf}
 use Rattle.world_tree.specs.Live.{record_at, live_in, IsEntry}
 use Rattle.world_tree.specs.Worlds.{WorldView, record_of}
-use Rattle.core_steps.specs.Views.{Fixed, has}
+use Rattle.core_steps.specs.Nodes.{Fixed, has}
 use Rattle.core_steps.specs.Stands.{IsStart}
 use Rattle.core_steps.proofs.Runs.{ids_of_records}
 use Rattle.core_seats.proofs.NearLists.{AreFound, found_at_ids}

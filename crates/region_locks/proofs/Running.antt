@@ -6,7 +6,10 @@ use Rattle.atomic_table.specs.Seated.{TableId}
 use Rattle.entity_recs.specs.declared.effect.Entry.{Entry}
 use Rattle.entity_recs.specs.Commands.{Command}
 use Rattle.areanode.specs.Words.{has_bit}
-use Rattle.core_steps.specs.Views.{Fixed, Refused, Point, Idle, Resolving, stage_of, is_busy, has, is_leaf, inner_nodes, inner_visited, region_in, inner_held, leaves_held, stores_owed, holds, held_word}
+use Rattle.core_steps.specs.Nodes.{Fixed, has, is_leaf, inner_nodes, inner_visited}
+use Rattle.core_steps.specs.Points.{Point, Idle, Resolving, stage_of, is_busy, stores_owed}
+use Rattle.core_steps.specs.Reads.{Refused, region_in}
+use Rattle.core_steps.specs.Held.{inner_held, leaves_held, holds, held_word}
 use Rattle.core_steps.specs.declared.sizes.TheConstants.{NODE_HOLDERS, TABLE_LEAVES}
 use Rattle.core_steps.specs.Calls.{is_pursued, pursued_of}
 use Rattle.core_steps.proofs.Points.{idle_point, none_in_hand}

@@ -8,7 +8,10 @@ use Rattle.entity_recs.specs.declared.effect.Entry.{Entry}
 use Rattle.entity_recs.specs.Commands.{Command}
 use Rattle.entity_recs.specs.Histories.{entry_of}
 use Rattle.core_steps.specs.Steps.{item_at, visiting}
-use Rattle.core_steps.specs.Views.{Fixed, View, Point, stage_of, is_committed, without_command, Checking, Resolving, Releasing, plan_of, region_in, leaf_word}
+use Rattle.core_steps.specs.Nodes.{Fixed, plan_of}
+use Rattle.core_steps.specs.Points.{Point, stage_of, is_committed, Checking, Resolving, Releasing}
+use Rattle.core_steps.specs.Reads.{View, without_command, region_in}
+use Rattle.core_steps.specs.Held.{leaf_word}
 use Rattle.core_seats.specs.Ready.{is_resolving}
 use Rattle.core_seats.specs.declared.refusals.Refusals.{Refusals}
 use Rattle.core_seats.specs.Refusals.{AreRefusals}

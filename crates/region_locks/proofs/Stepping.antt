@@ -6,7 +6,9 @@ use Rattle.atomic_table.specs.Seated.{TableId}
 use Rattle.entity_recs.specs.Commands.{Command}
 use Rattle.core_steps.specs.declared.step.Step.{Step}
 use Rattle.core_steps.specs.declared.step.StepKind.TheVariants as kinds
-use Rattle.core_steps.specs.Views.{Fixed, Clear, Put, Link, Point, View}
+use Rattle.core_steps.specs.Nodes.{Fixed}
+use Rattle.core_steps.specs.Points.{Clear, Put, Link, Point}
+use Rattle.core_steps.specs.Reads.{View}
 use Rattle.core_steps.specs.Steps.{first_yield, is_taking}
 use Rattle.core_steps.specs.Machine.{Next, Begin, LoadOwn, LoadAgain, TakeNode, ClaimNode, ReadList, ReadPlayer, ReadState, CommitMove, StoreWord, GiveNode, YieldNode, YieldCount, quitting, kind_of, index_of, step_of}
 use Rattle.core_steps.specs.Calls.{node_taken}

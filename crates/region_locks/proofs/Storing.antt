@@ -5,7 +5,11 @@ use Rattle.core_steps.specs.declared.sizes.TheConstants.{FIRST_LIST_WORD}
 use Rattle.entity_recs.specs.declared.effect.Effect.{Effect}
 use Rattle.entity_recs.specs.Commands.{Command}
 use Rattle.core_steps.specs.Cells.{with_bit, without_bit}
-use Rattle.core_steps.specs.Views.{Fixed, Store, Clear, Put, Link, Point, Idle, Owning, Taking, Checking, Entering, Entered, Loading, Leaving, Sensing, Resolving, Claiming, Storing, Releasing, Returning, Yielding, View, record_read, write_nodes, stores_owed}
+use Rattle.core_steps.specs.Nodes.{Fixed, write_nodes}
+use Rattle.core_steps.specs.Points.{Store, Clear, Put, Link, Point, Idle, Owning, Taking, Checking, Entering, Entered}
+use Rattle.core_steps.specs.Points.{Loading, Leaving, Sensing, Resolving, Claiming, Storing, Releasing, Returning}
+use Rattle.core_steps.specs.Points.{Yielding, stores_owed}
+use Rattle.core_steps.specs.Reads.{View, record_read}
 use Rattle.core_steps.specs.Steps.{first_yield, next_give}
 use Rattle.core_steps.specs.Machine.{Next, beginning, StoreWord, resolving, quitting, committing, giving, index_of}
 use Rattle.core_seats.specs.Going.{word_left}

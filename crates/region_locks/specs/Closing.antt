@@ -8,7 +8,8 @@ use Rattle.move_journal.specs.Lists.{IsWorldOf}
 use Rattle.move_journal.specs.Logs.{JournalView, journal_view}
 use Rattle.world_tree.specs.Live.{live_in}
 use Rattle.world_tree.specs.Worlds.{WorldView}
-use Rattle.core_steps.specs.Views.{Fixed, Idle}
+use Rattle.core_steps.specs.Nodes.{Fixed}
+use Rattle.core_steps.specs.Points.{Idle}
 use Rattle.core_seats.specs.Logs.{entries_of}
 use Rattle.ruled_words.specs.Sights.{Tally, no_tally, tally_of_both, SightView, no_sight, with_one_ended}
 use Rattle.ruled_words.specs.Passes.{PassView, RefusalIsListed, sight_of}

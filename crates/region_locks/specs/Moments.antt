@@ -3,7 +3,7 @@ use Rattle.std.specs.Prelude.{◌≡◌, Bool, true, ◌&&◌, is_some, List, []
 use Rattle.entity_recs.specs.declared.effect.Entry.{Entry}
 use Rattle.entity_recs.specs.Commands.{Command}
 use Rattle.entity_recs.specs.Histories.{Item}
-use Rattle.core_steps.specs.Views.{stage_of, is_committed}
+use Rattle.core_steps.specs.Points.{stage_of, is_committed}
 use Rattle.core_seats.specs.Ready.{is_resolving}
 use Rattle.ruled_words.specs.Passes.{PassView}
 use Rattle.region_locks.specs.Pursuits.{command_pursued, item_of, is_checking, HoldsLeavesAlone}

@@ -5,7 +5,8 @@ use Rattle.entity_recs.specs.declared.effect.Entry.{Entry}
 use Rattle.entity_recs.specs.Commands.{Command}
 use Rattle.areanode.specs.Words.{has_bit}
 use Rattle.areanode.specs.Trees.{leaf_node}
-use Rattle.core_steps.specs.Views.{Fixed, Refused, has, inner_nodes, leaf_nodes, inner_visited, region_in}
+use Rattle.core_steps.specs.Nodes.{Fixed, has, inner_nodes, leaf_nodes, inner_visited}
+use Rattle.core_steps.specs.Reads.{Refused, region_in}
 use Rattle.ruled_words.specs.Passes.{PassView, IsPassOf, IsHolderIn}
 use Rattle.ruled_words.specs.Holders.{IsOtherHolder}
 use Rattle.ruled_words.specs.Straight.{HasMoreInFront}

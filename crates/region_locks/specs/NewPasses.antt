@@ -2,7 +2,7 @@
 use Rattle.std.specs.Prelude.{ℕ, ◌-◌, false, List, ◌∷◌, map, length, slice_index, None}
 use Rattle.std.specs.List.{range_with_len}
 use Rattle.atomic_table.specs.Seated.{TableId}
-use Rattle.core_steps.specs.Views.{View, new_view}
+use Rattle.core_steps.specs.Reads.{View, new_view}
 use Rattle.ruled_words.specs.Sights.{no_tally}
 use Rattle.ruled_words.specs.Passes.{PassView}
 use Rattle.ruled_words.specs.declared.setting.Setting.{Setting}

@@ -1,7 +1,7 @@
 -- What a call asks of what comes next of a pass.
 use Rattle.std.specs.Prelude.{ℕ, Bool, true, false, List, [], ◌∷◌, Option, Some, None}
 use Rattle.core_steps.specs.Cells.{cell_index}
-use Rattle.core_steps.specs.Views.{Store, Clear, Put, Link}
+use Rattle.core_steps.specs.Points.{Store, Clear, Put, Link}
 use Rattle.core_steps.specs.Machine.{Next, CommitMove, StoreWord}
 
 -- the step commits

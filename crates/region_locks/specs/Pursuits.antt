@@ -5,10 +5,14 @@ use Rattle.atomic_table.specs.Seated.{TableId}
 use Rattle.entity_recs.specs.declared.effect.Entry.{Entry}
 use Rattle.entity_recs.specs.Commands.{Command}
 use Rattle.entity_recs.specs.Histories.{Item}
-use Rattle.core_steps.specs.Views.{Fixed, Point, Idle, Owning, Checking}
-use Rattle.core_steps.specs.Views.{Resolving, Releasing, Refused}
-use Rattle.core_steps.specs.Views.{has, is_leaf, leaf_nodes, inner_visited, region_in, inner_held, leaves_held}
-use Rattle.core_steps.specs.Views.{stores_owed, stage_of, is_busy}
+use Rattle.core_steps.specs.Nodes.{Fixed}
+use Rattle.core_steps.specs.Points.{Point, Idle, Owning, Checking}
+use Rattle.core_steps.specs.Points.{Resolving, Releasing}
+use Rattle.core_steps.specs.Reads.{Refused}
+use Rattle.core_steps.specs.Nodes.{has, is_leaf, leaf_nodes, inner_visited}
+use Rattle.core_steps.specs.Reads.{region_in}
+use Rattle.core_steps.specs.Held.{inner_held, leaves_held}
+use Rattle.core_steps.specs.Points.{stores_owed, stage_of, is_busy}
 use Rattle.core_steps.specs.Steps.{is_taking}
 use Rattle.core_steps.specs.Calls.{pursued_of}
 use Rattle.core_seats.specs.StepsLeft.{left_at, steps_left}

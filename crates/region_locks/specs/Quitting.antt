@@ -2,7 +2,8 @@
 use Rattle.std.specs.Prelude.{◌≤◌, ◌≡◌, ℕ, ◌<◌, Bool, true, false, not, ◌&&◌, ◌||◌, length, Option, None, is_some}
 use Rattle.std.specs.Option.{option_map}
 use Rattle.core_steps.specs.declared.step.Step.{Step}
-use Rattle.core_steps.specs.Views.{Fixed, Idle, stage_of, is_busy}
+use Rattle.core_steps.specs.Nodes.{Fixed}
+use Rattle.core_steps.specs.Points.{Idle, stage_of, is_busy}
 use Rattle.core_steps.specs.Steps.{first_yield}
 use Rattle.core_steps.specs.Machine.{YieldCount, step_of}
 use Rattle.core_seats.specs.Ready.{is_resolving}

@@ -4,8 +4,10 @@ use Rattle.areanode.specs.Trees.{leaves_of, visited_of}
 use Rattle.entity_recs.specs.declared.effect.Effect.{Effect}
 use Rattle.entity_recs.specs.declared.effect.Entry.{Entry}
 use Rattle.entity_recs.specs.Commands.{Command}
-use Rattle.core_steps.specs.Views.{Fixed, View, Checking, Resolving, Releasing, effect_loaded, inner_nodes, region_in}
-use Rattle.core_steps.specs.Views.{without_command}
+use Rattle.core_steps.specs.Nodes.{Fixed, inner_nodes}
+use Rattle.core_steps.specs.Points.{Checking, Resolving, Releasing}
+use Rattle.core_steps.specs.Reads.{View, effect_loaded, region_in}
+use Rattle.core_steps.specs.Reads.{without_command}
 use Rattle.core_steps.specs.Steps.{item_at}
 use Rattle.ruled_words.specs.Passes.{PassView}
 use Rattle.ruled_words.specs.Straight.{in_view_with, taking_leaves, at_point, HasMoreInFront, IsTriedOn}

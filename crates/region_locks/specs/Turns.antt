@@ -1,6 +1,8 @@
 -- Which call makes a pass's next step.
 use Rattle.std.specs.Prelude.{◌≡◌, [], Bool, ◌||◌, if◌then◌else◌, Option, Some, None, is_some}
-use Rattle.core_steps.specs.Views.{Fixed, Store, Clear, Put, Link, View, stage_of, is_busy}
+use Rattle.core_steps.specs.Nodes.{Fixed}
+use Rattle.core_steps.specs.Points.{Store, Clear, Put, Link, stage_of, is_busy}
+use Rattle.core_steps.specs.Reads.{View}
 use Rattle.core_steps.specs.Machine.{Next, Begin, LoadOwn, LoadAgain, TakeNode, ClaimNode, ReadList, ReadPlayer}
 use Rattle.core_steps.specs.Machine.{ReadState, CommitMove, StoreWord, GiveNode, YieldNode, YieldCount}
 use Rattle.core_seats.specs.Ready.{is_resolving}

@@ -1,6 +1,6 @@
 ghost use Rattle.std.specs.Prelude.{◌≡◌, ◌≢◌, ℕ};
-ghost use Rattle.core_steps.specs.Views as views;
-ghost use Rattle.core_steps.specs.Views.{Fixed};
+ghost use Rattle.core_steps.specs.Nodes as core_nodes;
+ghost use Rattle.core_steps.specs.Nodes.{Fixed};
 ghost use Rattle.ruled_words.specs.Passes.{IsHolderIn};
 
 use core_steps::{NODE_HOLDERS, TABLE_LEAVES};
@@ -17,7 +17,7 @@ pub struct Holder {
 /// Who holds a node, which is a leaf or not, by its word.
 pub(crate) fn holder_in(word: u64, is_leaf: bool) -> Holder
     requires { word ≢ 0 }
-    ensures { (F : Fixed) (node : ℕ) → is_leaf ≡ views.is_leaf F node
+    ensures { (F : Fixed) (node : ℕ) → is_leaf ≡ core_nodes.is_leaf F node
         → IsHolderIn F word node result.number result.leaves }
 {
     Holder {

@@ -3,8 +3,9 @@ ghost use Rattle.std.specs.Option.{option_map};
 ghost use Rattle.entity_recs.specs.declared.effect.Effect.{Effect};
 ghost use Rattle.entity_recs.specs.Commands.{Command};
 ghost use Rattle.core_steps.specs.Steps as steps;
-ghost use Rattle.core_steps.specs.Views as views;
-ghost use Rattle.core_steps.specs.Views.{Fixed, View};
+ghost use Rattle.core_steps.specs.Points as core_points;
+ghost use Rattle.core_steps.specs.Nodes.{Fixed};
+ghost use Rattle.core_steps.specs.Reads.{View};
 ghost use Rattle.core_steps.specs.Machine.{next_at, beginning};
 ghost use Rattle.core_seats.specs.Nexts.{next_point};
 ghost use Rattle.core_seats.specs.Ready as ready;
@@ -88,8 +89,8 @@ fn give_first(inner: &[u8], leaves: &[u8]) -> Option<Turn>
 /// The first of these stores is made, if any.
 fn store_first(stores: &[Store]) -> Option<Turn>
     ensures { (F : Fixed) (view : View) (given : Option Command) (nodes : List ℕ) → result
-        ≡ turn_for (record view { point = views.Storing nodes (map store_of stores.now) })
-        (next_at F view given (views.Storing nodes (map store_of stores.now))) }
+        ≡ turn_for (record view { point = core_points.Storing nodes (map store_of stores.now) })
+        (next_at F view given (core_points.Storing nodes (map store_of stores.now))) }
 {
     match stores {
         [Store::Clear(_), ..] => Some(Turn::Unlink),
@@ -101,7 +102,7 @@ fn store_first(stores: &[Store]) -> Option<Turn>
 
 /// The command that was given is begun, if one was.
 fn begin(seat: &Seat) -> Option<Turn>
-    ensures { (view : View) → result ≡ turn_for (record view { point = views.Idle }) (beginning (given_of seat.now)) }
+    ensures { (view : View) → result ≡ turn_for (record view { point = core_points.Idle }) (beginning (given_of seat.now)) }
 {
     match &seat.given {
         Some(cmd) => Some(Turn::LoadRec(cmd.slot)),
@@ -112,8 +113,8 @@ fn begin(seat: &Seat) -> Option<Turn>
 /// The first of these write nodes is taken, or the command is committed where none is left.
 fn claim(seat: &Seat, rest: &[u8]) -> Option<Turn>
     ensures { (F : Fixed) (got : List ℕ) → result
-        ≡ turn_for (record (view_of seat.now) { point = views.Claiming got rest.now })
-        (next_at F (view_of seat.now) (given_of seat.now) (views.Claiming got rest.now)) }
+        ≡ turn_for (record (view_of seat.now) { point = core_points.Claiming got rest.now })
+        (next_at F (view_of seat.now) (given_of seat.now) (core_points.Claiming got rest.now)) }
 {
     if let [node, ..] = rest {
         return Some(Turn::Take(*node));
@@ -168,7 +169,7 @@ impl<'a, A: Action> NodeTable<'a, A> {
     fn resolved_turn(&self, pass: &Pass<A>) -> Option<Turn>
         requires own { IsOwn A.meaning self.now pass.now }
         requires pursues { pass.now.quits ≡ false }
-        requires read { pass.now.view.point ≡ views.Resolving }
+        requires read { pass.now.view.point ≡ core_points.Resolving }
         ensures turn { result ≡ turn_of (fixed_in A.meaning self.now) pass.now }
     {
         let Some(effect) = &pass.effect else {

@@ -8,7 +8,9 @@ use prog.Atomic.{either}
 use Rattle.atomic_table.specs.Table.{Me, State, keeps, Allows}
 use Rattle.atomic_table.proofs.Lists.{set_here}
 use Rattle.entity_recs.specs.Commands.{Command}
-use Rattle.core_steps.specs.Views.{Fixed, View, Clear, Put, Link}
+use Rattle.core_steps.specs.Nodes.{Fixed}
+use Rattle.core_steps.specs.Points.{Clear, Put, Link}
+use Rattle.core_steps.specs.Reads.{View}
 use Rattle.core_steps.specs.declared.step.StepKind.TheVariants.{Commit}
 use Rattle.core_steps.specs.Calls.{node_taken}
 use Rattle.core_steps.specs.Machine.{Next, Begin, LoadOwn, LoadAgain, TakeNode, ClaimNode, ReadList, ReadPlayer, ReadState, CommitMove, StoreWord, GiveNode, YieldNode, YieldCount, index_of, kind_of}

@@ -7,7 +7,7 @@ use Rattle.std.proofs.lemmas.Nat.{div-add-mod'}
 use Rattle.std.proofs.lemmas.Nat.Bits.{bit_at-zero, bit_at_above, bit_at_cat_low}
 use Rattle.std.proofs.Math.Bool.{and-false, and-true}
 use Rattle.areanode.specs.Words.{has_bit}
-use Rattle.core_steps.specs.Views.{players_in}
+use Rattle.core_steps.specs.Reads.{players_in}
 
 -- ---- the numbers whose bit is set
 

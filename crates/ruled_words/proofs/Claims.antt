@@ -6,7 +6,11 @@ use Rattle.std.proofs.lemmas.List.{take_more, take_all, drop_more, drop_all}
 use Rattle.core_steps.specs.declared.sizes.TheConstants.{NODE_HOLDERS}
 use Rattle.atomic_table.specs.Seated.{TableId}
 use Rattle.entity_recs.specs.declared.effect.Effect.{Effect}
-use Rattle.core_steps.specs.Views.{Fixed, View, Point, Resolving, Claiming, Storing, Releasing, AtClaiming, stage_of, is_without_effect, has, is_leaf, home, record_read, region_in, leaf_word, held_word, stores_of}
+use Rattle.core_steps.specs.Nodes.{Fixed, has, is_leaf, home}
+use Rattle.core_steps.specs.Points.{Point, Resolving, Claiming, Storing, Releasing, AtClaiming, stage_of}
+use Rattle.core_steps.specs.Points.{is_without_effect, stores_of}
+use Rattle.core_steps.specs.Reads.{View, record_read, region_in}
+use Rattle.core_steps.specs.Held.{leaf_word, held_word}
 use Rattle.core_steps.specs.Steps.{first, rest_of, point_after_take, view_after_take, view_after_claim, view_after_refusal, view_after_commit, storing}
 use Rattle.core_steps.specs.Machine.{Next, TakeNode, ClaimNode, CommitMove, resolving, committing, kind_of}
 use Rattle.core_steps.specs.declared.step.StepKind.TheVariants.{Commit}

@@ -12,7 +12,9 @@ use Rattle.core_steps.specs.declared.sizes.TheConstants.{TABLE_WORDS}
 use Rattle.atomic_table.specs.Table.{State}
 use Rattle.entity_recs.specs.Histories.{Item, places_of}
 use Rattle.core_steps.specs.Cells.{Cell, Body, State as StateCell, word_in, cell_index}
-use Rattle.core_steps.specs.Views.{Fixed, Point, Idle, stores_owed, Ended, View}
+use Rattle.core_steps.specs.Nodes.{Fixed}
+use Rattle.core_steps.specs.Points.{Point, Idle, stores_owed}
+use Rattle.core_steps.specs.Reads.{Ended, View}
 use Rattle.core_steps.specs.Stands.{is_live_cell, value_in, owed_at, ended_log, is_ended, log_of, items_below, items_of, IsLogWithin, IsNumbered}
 use Rattle.core_steps.proofs.Runs.{IsRunWorld}
 use Rattle.core_steps.proofs.Exclusion.{now_world}

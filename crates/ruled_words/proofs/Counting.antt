@@ -8,7 +8,8 @@ use Rattle.std.proofs.lemmas.List.Sorted.{length_permutation}
 use mathlib.Core.Option as maybe
 use lib.ListN.{get_elem?}
 use Rattle.atomic_table.specs.Table.{State}
-use Rattle.core_steps.specs.Views.{Fixed, Ended, View}
+use Rattle.core_steps.specs.Nodes.{Fixed}
+use Rattle.core_steps.specs.Reads.{Ended, View}
 use Rattle.core_steps.specs.Stands.{IsLogWithin, ended_log, log_of, items_of}
 use Rattle.core_steps.proofs.Appending.{below_small}
 use Rattle.ruled_words.specs.Sights.{SightView}

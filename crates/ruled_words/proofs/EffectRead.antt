@@ -9,7 +9,9 @@ use Rattle.arena_geo.specs.Bounds.{Bounds}
 use Rattle.entity_recs.specs.declared.rec.Rec.{Rec}
 use Rattle.entity_recs.specs.Commands.{Command}
 use Rattle.entity_recs.specs.Actions.{IsCall}
-use Rattle.core_steps.specs.Views.{Fixed, Point, Resolving, stage_of, is_busy, record_read, region_in, near_loaded, loaded_near, effect_loaded}
+use Rattle.core_steps.specs.Nodes.{Fixed}
+use Rattle.core_steps.specs.Points.{Point, Resolving, stage_of, is_busy}
+use Rattle.core_steps.specs.Reads.{record_read, region_in, near_loaded, loaded_near, effect_loaded}
 use Rattle.core_steps.specs.Steps.{sensing}
 use Rattle.atomic_table.specs.Seated.{TableId}
 use Rattle.core_seats.specs.NearKept.{players_kept, things_loaded}

@@ -8,7 +8,9 @@ use Rattle.std.proofs.lemmas.List.Elements.{recursion_from_All, All-from_recursi
 use Rattle.atomic_table.specs.Table.{State}
 use Rattle.atomic_table.proofs.Lists.{at_set}
 use Rattle.core_steps.specs.Cells.{put}
-use Rattle.core_steps.specs.Views.{Fixed, Ended, stage_of, is_busy, View, spent}
+use Rattle.core_steps.specs.Nodes.{Fixed}
+use Rattle.core_steps.specs.Points.{stage_of, is_busy}
+use Rattle.core_steps.specs.Reads.{Ended, View, spent}
 use Rattle.core_steps.specs.Steps.{Core, end_seat, with_ended}
 use Rattle.core_steps.specs.Laws.{IsResting}
 use Rattle.core_steps.specs.Machine.{HasNext, ViewFits, MachineStands}

@@ -4,7 +4,7 @@ use Rattle.core_steps.specs.declared.sizes.TheConstants.{TABLE_WORDS}
 use mathlib.Core.Option.{some}
 use lib.ListN.{get_elem?}
 use Rattle.atomic_table.specs.Table.{Final, Seen}
-use Rattle.core_steps.specs.Views.{Fixed}
+use Rattle.core_steps.specs.Nodes.{Fixed}
 use Rattle.core_steps.specs.Stands.{IsStart}
 use Rattle.ruled_words.specs.Sights.{AreRefusalsServed, SightView}
 use Rattle.ruled_words.specs.Going.{IsAtRest}

@@ -6,7 +6,10 @@ use Rattle.atomic_table.specs.Seated.{TableId}
 use Rattle.arena_geo.specs.Bounds.{Bounds}
 use Rattle.areanode.specs.Words.{has_bit}
 use Rattle.areanode.specs.Trees.{IsTreeDepth, leaf_node, leaves_of}
-use Rattle.core_steps.specs.Views.{Fixed, View, Point, Releasing, leaf_nodes, leaf_word, region_in, is_whole, stage_of, without_command}
+use Rattle.core_steps.specs.Nodes.{Fixed, leaf_nodes}
+use Rattle.core_steps.specs.Points.{Point, Releasing, is_whole, stage_of}
+use Rattle.core_steps.specs.Reads.{View, region_in, without_command}
+use Rattle.core_steps.specs.Held.{leaf_word}
 use Rattle.core_steps.specs.Steps.{first, rest_of, returning, view_after_give}
 use Rattle.core_steps.specs.Machine.{GiveNode, giving}
 use Rattle.core_seats.specs.Nexts.{the_next}

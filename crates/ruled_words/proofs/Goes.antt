@@ -11,7 +11,9 @@ use Rattle.entity_recs.specs.Commands.{Command}
 use Rattle.entity_recs.specs.Worlds.{World}
 use Rattle.entity_recs.specs.Histories.{Item, run}
 use Rattle.core_steps.specs.Cells.{put, word_at}
-use Rattle.core_steps.specs.Views.{Fixed, Ended, stage_of, is_busy, View}
+use Rattle.core_steps.specs.Nodes.{Fixed}
+use Rattle.core_steps.specs.Points.{stage_of, is_busy}
+use Rattle.core_steps.specs.Reads.{Ended, View}
 use Rattle.core_steps.specs.Steps.{Core, first_yield, is_taking}
 use Rattle.core_steps.specs.Machine.{Machine, Next, quitting, next_at, next_of, machine_after, core_after, items_after, index_of, word_of_next, IsPending, MachineStands}
 use Rattle.core_steps.specs.MachineLaws.{HasItsWord}

@@ -6,7 +6,8 @@ use Rattle.atomic_table.specs.Seated.{TableId}
 use Rattle.entity_recs.specs.declared.effect.Effect.{Effect}
 use Rattle.entity_recs.specs.Commands.{Command}
 use Rattle.core_steps.specs.Cells.{body_index}
-use Rattle.core_steps.specs.Views.{Fixed, Point, Idle}
+use Rattle.core_steps.specs.Nodes.{Fixed}
+use Rattle.core_steps.specs.Points.{Point, Idle}
 use Rattle.core_steps.specs.Steps.{is_taking, first_yield}
 use Rattle.core_steps.specs.Machine.{Next, Begin, IsPending, index_of, quitting}
 use Rattle.core_seats.specs.Going.{view_found, word_left}

@@ -6,7 +6,9 @@ use Rattle.arena_geo.specs.Bounds.{Bounds}
 use Rattle.core_steps.specs.declared.sizes.TheConstants.{TABLE_LEAVES, MOST_SEATS, NODE_HOLDERS}
 use Rattle.areanode.specs.Words.{has_bit}
 use Rattle.areanode.specs.Trees.{IsTreeDepth}
-use Rattle.core_steps.specs.Views.{Fixed, Stage, is_writing, is_leaf, leaf_nodes, leaf_word}
+use Rattle.core_steps.specs.Nodes.{Fixed, is_leaf, leaf_nodes}
+use Rattle.core_steps.specs.Points.{Stage, is_writing}
+use Rattle.core_steps.specs.Held.{leaf_word}
 use Rattle.ruled_words.specs.Laws.{HeldWordsNameTheirHolder}
 use Rattle.ruled_words.proofs.LeafWords.{leaf_word_is}
 use Rattle.ruled_words.proofs.Holders.{leaves_fit}

@@ -15,7 +15,12 @@ use Rattle.areanode.specs.Words.{has_bit}
 use Rattle.areanode.specs.Depths.{sizes_of_depth}
 use Rattle.areanode.specs.Trees.{IsTreeDepth, leaves_of}
 use Rattle.core_steps.specs.Cells.{Words}
-use Rattle.core_steps.specs.Views.{Fixed, Point, Idle, Owning, Taking, Checking, Entering, Entered, Loading, Leaving, Sensing, Resolving, Claiming, Storing, Releasing, Returning, Yielding, View, stage_of, is_busy, is_whole, is_writing, has, is_leaf, inner_nodes, leaf_nodes, leaf_word, region_in, holds, held_word, inner_held, leaves_held, record_read, write_nodes, effect_loaded}
+use Rattle.core_steps.specs.Nodes.{Fixed, has, is_leaf, inner_nodes, leaf_nodes, write_nodes}
+use Rattle.core_steps.specs.Points.{Point, Idle, Owning, Taking, Checking, Entering, Entered, Loading, Leaving, Sensing}
+use Rattle.core_steps.specs.Points.{Resolving, Claiming, Storing, Releasing, Returning, Yielding, stage_of, is_busy}
+use Rattle.core_steps.specs.Points.{is_whole, is_writing}
+use Rattle.core_steps.specs.Reads.{View, region_in, record_read, effect_loaded}
+use Rattle.core_steps.specs.Held.{leaf_word, holds, held_word, inner_held, leaves_held}
 use Rattle.core_steps.specs.Steps.{first_yield, next_give, next_node_at}
 use Rattle.core_steps.specs.Stands.{IsAt}
 use Rattle.core_steps.specs.Machine.{Next, Begin, LoadOwn, LoadAgain, TakeNode, ClaimNode, ReadList, ReadPlayer, ReadState, CommitMove, StoreWord, GiveNode, YieldNode, YieldCount, giving, quitting, beginning, committing, next_at, index_of, word_of_next, SomeIsLeft}

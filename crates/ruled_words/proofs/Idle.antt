@@ -7,7 +7,8 @@ use Rattle.std.proofs.lemmas.Bool.{false≢true}
 use Rattle.entity_recs.specs.Worlds.{World}
 use Rattle.entity_recs.specs.Histories.{Item}
 use Rattle.core_steps.specs.Cells.{put}
-use Rattle.core_steps.specs.Views.{Fixed, View, new_view}
+use Rattle.core_steps.specs.Nodes.{Fixed}
+use Rattle.core_steps.specs.Reads.{View, new_view}
 use Rattle.core_steps.specs.Steps.{Core}
 use Rattle.core_steps.specs.Stands.{Stands}
 use Rattle.core_steps.specs.Machine.{HasNext, ViewFits, MachineStands}

@@ -9,7 +9,8 @@ use Rattle.areanode.specs.Words.{has_bit, word_of}
 use Rattle.areanode.specs.Trees.{IsTreeDepth, leaf_node, leaves_of, region_has_leaf}
 use Rattle.areanode.specs.Depths.{sizes_of_depth}
 use Rattle.areanode.proofs.Words.{word_has_its_bits, word_of-below}
-use Rattle.core_steps.specs.Views.{Fixed, inner_nodes, leaf_nodes, leaf_word, bits_of_leaves}
+use Rattle.core_steps.specs.Nodes.{Fixed, inner_nodes, leaf_nodes}
+use Rattle.core_steps.specs.Held.{leaf_word, bits_of_leaves}
 use Rattle.core_seats.proofs.ReadLists.{bits_more}
 use Rattle.world_tree.proofs.Rounds.{range-more}
 

@@ -5,7 +5,9 @@ use Rattle.std.proofs.lemmas.Bool.{cond-true, cond-false, ne_eqb, eq-eqb}
 use Rattle.entity_recs.specs.declared.effect.Effect.{Effect}
 use Rattle.entity_recs.specs.Commands.{Command}
 use Rattle.core_steps.specs.Cells.{cell_of, cell_index}
-use Rattle.core_steps.specs.Views.{Fixed, View, Point, Owning, Checking, plan_of, region_in, things_in}
+use Rattle.core_steps.specs.Nodes.{Fixed, plan_of}
+use Rattle.core_steps.specs.Points.{Point, Owning, Checking}
+use Rattle.core_steps.specs.Reads.{View, region_in, things_in}
 use Rattle.core_steps.specs.Steps.{owned, visiting, sensing}
 use Rattle.core_steps.specs.Machine.{Next, LoadOwn, index_of}
 use Rattle.core_seats.specs.Going.{view_found, word_left}

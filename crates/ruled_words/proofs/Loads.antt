@@ -7,7 +7,9 @@ use Rattle.atomic_table.specs.Seated.{TableId}
 use Rattle.entity_recs.specs.declared.effect.Effect.{Effect}
 use Rattle.entity_recs.specs.declared.rec.Rec.{Rec}
 use Rattle.core_steps.specs.Cells.{cell_of, cell_index}
-use Rattle.core_steps.specs.Views.{Fixed, Point, Owning, Taking, Checking, Loading, View, is_settled, is_read_again, region_in, leaf_nodes, plan_of, record_read}
+use Rattle.core_steps.specs.Nodes.{Fixed, leaf_nodes, plan_of}
+use Rattle.core_steps.specs.Points.{Point, Owning, Taking, Checking, Loading, is_settled, is_read_again}
+use Rattle.core_steps.specs.Reads.{View, region_in, record_read}
 use Rattle.core_steps.specs.Steps.{visiting}
 use Rattle.core_steps.specs.Machine.{Next, Begin, LoadOwn, LoadAgain, TakeNode, ClaimNode, ReadList, ReadPlayer, ReadState, CommitMove, StoreWord, GiveNode, YieldNode, YieldCount, index_of}
 use Rattle.core_steps.proofs.Points.{visiting_between}

@@ -6,7 +6,9 @@ use Rattle.std.proofs.lemmas.Bool.{ne_eqb}
 use Rattle.std.proofs.lemmas.List.{set-get_or}
 use Rattle.atomic_table.specs.Table.{State, keeps, stepped}
 use Rattle.atomic_table.proofs.Lists.{at_set}
-use Rattle.core_steps.specs.Views.{Fixed, Ended, stage_of, is_busy, View}
+use Rattle.core_steps.specs.Nodes.{Fixed}
+use Rattle.core_steps.specs.Points.{stage_of, is_busy}
+use Rattle.core_steps.specs.Reads.{Ended, View}
 use Rattle.core_steps.specs.Steps.{Core, load_count}
 use Rattle.core_steps.specs.Laws.{IsResting}
 use Rattle.core_steps.specs.Machine.{MachineStands}

@@ -7,7 +7,9 @@ use Rattle.std.proofs.lemmas.Bool.{false≢true, ne_eqb}
 use Rattle.atomic_table.specs.Table.{State}
 use Rattle.atomic_table.proofs.Lists.{at_set}
 use Rattle.core_steps.specs.Cells.{put}
-use Rattle.core_steps.specs.Views.{Fixed, Ended, stage_of, is_busy, View, new_view}
+use Rattle.core_steps.specs.Nodes.{Fixed}
+use Rattle.core_steps.specs.Points.{stage_of, is_busy}
+use Rattle.core_steps.specs.Reads.{Ended, View, new_view}
 use Rattle.core_steps.specs.Steps.{Core, make_seat}
 use Rattle.core_steps.specs.Laws.{IsResting}
 use Rattle.core_steps.specs.Machine.{HasNext, ViewFits, MachineStands}

@@ -8,7 +8,7 @@ use Rattle.entity_recs.specs.Worlds.{World, record_with}
 use Rattle.world_tree.specs.Live.{live_in, ids_of}
 use Rattle.world_tree.specs.Worlds.{WorldView, IsLinked}
 use Rattle.world_tree.proofs.Rising.{live_ids_rise}
-use Rattle.core_steps.specs.Views.{Fixed}
+use Rattle.core_steps.specs.Nodes.{Fixed}
 use Rattle.core_steps.specs.Stands.{IsStart, start_core}
 use Rattle.core_seats.proofs.NearLists.{AreFound, found_at_ids}
 use Rattle.ruled_words.specs.Starts.{world_at_start, fixed_of_world, AreStartWords}

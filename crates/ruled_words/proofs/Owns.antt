@@ -5,7 +5,11 @@ use Rattle.std.proofs.lemmas.Bool.{cases_Bool, false≢true, true≢false, cond-
 use Rattle.atomic_table.specs.Seated.{TableId}
 use Rattle.entity_recs.specs.declared.effect.Effect.{Effect}
 use Rattle.entity_recs.specs.Commands.{Command}
-use Rattle.core_steps.specs.Views.{Fixed, Point, Idle, Owning, Taking, Checking, Entering, Entered, Loading, Leaving, Sensing, Resolving, Claiming, Storing, Releasing, Returning, Yielding, View, record_read, write_nodes, inner_held, leaves_held, effect_loaded}
+use Rattle.core_steps.specs.Nodes.{Fixed, write_nodes}
+use Rattle.core_steps.specs.Points.{Point, Idle, Owning, Taking, Checking, Entering, Entered, Loading, Leaving, Sensing}
+use Rattle.core_steps.specs.Points.{Resolving, Claiming, Storing, Releasing, Returning, Yielding}
+use Rattle.core_steps.specs.Reads.{View, record_read, effect_loaded}
+use Rattle.core_steps.specs.Held.{inner_held, leaves_held}
 use Rattle.core_steps.specs.Steps.{rest_of, yielding, yielded, first_yield, view_after_claim, view_after_refusal}
 use Rattle.core_steps.specs.Machine.{Next, resolving, quitting}
 use Rattle.core_seats.specs.Going.{view_found, word_left}

@@ -1,7 +1,9 @@
 -- What comes next of a hand, where it is known: what a step asks of it, and the hand after it.
 use Rattle.std.proofs.Common.{◌≡◌, ℕ, true, sym, ap, ◌∙◌, Option, Some, None, is_some}
 use Rattle.entity_recs.specs.declared.effect.Effect.{Effect}
-use Rattle.core_steps.specs.Views.{Fixed, View, Point}
+use Rattle.core_steps.specs.Nodes.{Fixed}
+use Rattle.core_steps.specs.Points.{Point}
+use Rattle.core_steps.specs.Reads.{View}
 use Rattle.core_steps.specs.Machine.{Next, index_of}
 use Rattle.core_seats.specs.Going.{word_left}
 use Rattle.core_seats.specs.Nexts.{next_point, the_next}

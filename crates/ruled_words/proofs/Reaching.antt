@@ -18,7 +18,12 @@ use Rattle.entity_recs.proofs.Standing.{records_have_boxes}
 use Rattle.areanode.specs.Words.{has_bit}
 use Rattle.areanode.specs.Trees.{leaves_of, visited_of}
 use Rattle.areanode.proofs.Nodes.{touched_node_is_visited}
-use Rattle.core_steps.specs.Views.{Fixed, Point, Idle, Owning, Taking, Checking, Entering, Entered, Loading, Leaving, Sensing, Resolving, Claiming, Storing, Releasing, Returning, Yielding, View, stage_of, is_settled, is_read_again, is_whole, has, is_leaf, inner_nodes, leaf_nodes, inner_visited, plan_of, home, region_in, record_read, write_nodes, effect_loaded}
+use Rattle.core_steps.specs.Nodes.{Fixed, has, is_leaf, inner_nodes, leaf_nodes, inner_visited, plan_of, home}
+use Rattle.core_steps.specs.Nodes.{write_nodes}
+use Rattle.core_steps.specs.Points.{Point, Idle, Owning, Taking, Checking, Entering, Entered, Loading, Leaving, Sensing}
+use Rattle.core_steps.specs.Points.{Resolving, Claiming, Storing, Releasing, Returning, Yielding, stage_of, is_settled}
+use Rattle.core_steps.specs.Points.{is_read_again, is_whole}
+use Rattle.core_steps.specs.Reads.{View, region_in, record_read, effect_loaded}
 use Rattle.core_steps.specs.Steps.{next_node_at}
 use Rattle.core_steps.specs.Stands.{IsAt}
 use Rattle.core_steps.specs.Machine.{Next}

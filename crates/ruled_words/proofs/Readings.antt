@@ -9,7 +9,7 @@ use Rattle.entity_recs.specs.Worlds.{World}
 use Rattle.world_tree.specs.Live.{IsEntry}
 use Rattle.core_steps.specs.Cells.{Body, State, cell_index}
 use Rattle.core_steps.specs.Encoding.{words_of, record_from}
-use Rattle.core_steps.specs.Views.{Fixed, has}
+use Rattle.core_steps.specs.Nodes.{Fixed, has}
 use Rattle.core_steps.specs.Stands.{is_live_cell, is_player, value_in, IsLawful, IsStart}
 use Rattle.core_steps.proofs.Runs.{IsRunWorld, start_world}
 use Rattle.core_steps.proofs.Exclusion.{SameFive, player_from_words}

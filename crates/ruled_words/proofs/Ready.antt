@@ -4,7 +4,10 @@ use Rattle.std.proofs.lemmas.Bool.{false≢true}
 use Rattle.atomic_table.specs.Seated.{TableId}
 use Rattle.atomic_table.specs.declared.shared.Seat.{Seat}
 use Rattle.entity_recs.specs.declared.effect.Effect.{Effect}
-use Rattle.core_steps.specs.Views.{Fixed, Point, Idle, Owning, Taking, Checking, Entering, Entered, Loading, Leaving, Sensing, Resolving, Claiming, Storing, Releasing, Returning, Yielding, View, record_read, write_nodes, effect_loaded}
+use Rattle.core_steps.specs.Nodes.{Fixed, write_nodes}
+use Rattle.core_steps.specs.Points.{Point, Idle, Owning, Taking, Checking, Entering, Entered, Loading, Leaving, Sensing}
+use Rattle.core_steps.specs.Points.{Resolving, Claiming, Storing, Releasing, Returning, Yielding}
+use Rattle.core_steps.specs.Reads.{View, record_read, effect_loaded}
 use Rattle.core_steps.specs.Steps.{first_yield}
 use Rattle.core_steps.specs.Machine.{resolving, quitting, next_at}
 use Rattle.ruled_words.specs.Sights.{SightView, Tally, tally_after}

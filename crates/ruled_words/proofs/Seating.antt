@@ -4,7 +4,7 @@ use mathlib.Core.Option as maybe
 use lib.ListN.{get_elem?}
 use Rattle.atomic_table.specs.Table.{Me, keeps, Allows, Splits, Joins}
 use Rattle.atomic_table.proofs.Lists.{at_set, set_here}
-use Rattle.core_steps.specs.Views.{Fixed}
+use Rattle.core_steps.specs.Nodes.{Fixed}
 use Rattle.ruled_words.specs.Sights.{SightView, no_sight, with_one_made, sight_made, with_one_ended}
 use Rattle.ruled_words.specs.Going.{IsAtRest, view_looked}
 use Rattle.ruled_words.specs.Rule.{IsRuled}

@@ -3,7 +3,7 @@ use Rattle.std.proofs.Common.{◌≡◌, ℕ, List, length, subst}
 use mathlib.Core.Option as maybe
 use lib.ListN.{get_elem?}
 use Rattle.atomic_table.specs.Table.{State}
-use Rattle.core_steps.specs.Views.{Fixed}
+use Rattle.core_steps.specs.Nodes.{Fixed}
 use Rattle.core_seats.specs.Sound.{IsSound}
 use Rattle.core_seats.proofs.Sounding.{sound_here}
 use Rattle.ruled_words.specs.Sights.{SightView}

@@ -4,7 +4,7 @@ use Rattle.std.proofs.lemmas.Bool.{cases_eq, eq-eqb, ne_eqb}
 use Rattle.areanode.specs.Words.{word_of}
 use Rattle.areanode.proofs.Words.{word_of-below, word_none, word_next}
 use Rattle.core_steps.specs.declared.sizes.TheConstants.{TABLE_NODES}
-use Rattle.core_steps.specs.Views.{home}
+use Rattle.core_steps.specs.Nodes.{home}
 use Rattle.core_steps.specs.Stands.{is_player, start_words}
 use Rattle.core_steps.proofs.StartWords.{zeros_at, zeros}
 use Rattle.world_tree.specs.Worlds.{WorldView}

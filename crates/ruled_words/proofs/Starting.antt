@@ -9,7 +9,9 @@ use Rattle.std.proofs.lemmas.List.Elements.{All-from_recursion}
 use Rattle.areanode.specs.Trees.{IsTreeDepth}
 use Rattle.core_steps.specs.declared.sizes.TheConstants.{MOST_SEATS}
 use Rattle.atomic_table.specs.Table.{opening}
-use Rattle.core_steps.specs.Views.{Fixed, Ended, View, new_view, spent, stage_of, is_busy}
+use Rattle.core_steps.specs.Nodes.{Fixed}
+use Rattle.core_steps.specs.Points.{stage_of, is_busy}
+use Rattle.core_steps.specs.Reads.{Ended, View, new_view, spent}
 use Rattle.core_steps.specs.Steps.{Core}
 use Rattle.core_steps.specs.Stands.{IsLawful, IsStart, start_core}
 use Rattle.core_steps.proofs.Reached.{machine_start_stands}

@@ -13,7 +13,9 @@ use Rattle.entity_recs.specs.declared.effect.Effect.{Effect}
 use Rattle.entity_recs.specs.declared.effect.NewState.{NewState}
 use Rattle.entity_recs.specs.Bodies.{abs_of}
 use Rattle.entity_recs.specs.Records.{with_state}
-use Rattle.core_steps.specs.Views.{Fixed, Point, Sensing, Resolving, things_in}
+use Rattle.core_steps.specs.Nodes.{Fixed}
+use Rattle.core_steps.specs.Points.{Point, Sensing, Resolving}
+use Rattle.core_steps.specs.Reads.{things_in}
 use Rattle.core_seats.specs.ThingBits.{AreApart}
 use Rattle.core_seats.specs.NearKept.{AreThings, thing_with, records_touching, things_loaded}
 use Rattle.world_tree.specs.Nears.{NearView}

@@ -5,7 +5,10 @@ use Rattle.entity_recs.specs.declared.effect.NewState.{NewState}
 use Rattle.entity_recs.specs.declared.effect.Effect.{Effect}
 use Rattle.core_steps.specs.Cells.{Body, State}
 use Rattle.core_steps.specs.Encoding.{words_of}
-use Rattle.core_steps.specs.Views.{Fixed, View, Point, Releasing, Store, Clear, Put, Link, body_stores, stores_of, home, is_busy, stage_of, stores_owed}
+use Rattle.core_steps.specs.Nodes.{Fixed, home}
+use Rattle.core_steps.specs.Points.{Point, Releasing, Store, Clear, Put, Link, body_stores, stores_of, is_busy}
+use Rattle.core_steps.specs.Points.{stage_of, stores_owed}
+use Rattle.core_steps.specs.Reads.{View}
 use Rattle.core_steps.specs.Steps.{storing}
 use Rattle.core_steps.specs.Machine.{Next, StoreWord}
 use Rattle.core_seats.specs.Going.{view_found, word_stored}

@@ -8,7 +8,12 @@ use Rattle.core_steps.specs.declared.sizes.TheConstants.{NODE_HOLDERS}
 use Rattle.atomic_table.specs.Seated.{TableId}
 use Rattle.entity_recs.specs.declared.effect.Effect.{Effect}
 use Rattle.entity_recs.specs.Commands.{Command}
-use Rattle.core_steps.specs.Views.{Fixed, Point, Idle, Owning, Taking, Checking, Entering, Entered, Loading, Leaving, Sensing, Resolving, Claiming, Storing, Releasing, Returning, Yielding, Stage, AtClaiming, stage_of, is_whole, is_writing, is_without_effect, is_leaf, leaf_nodes, nodes_of, record_read, write_nodes, leaf_word, region_in, held_word}
+use Rattle.core_steps.specs.Nodes.{Fixed, is_leaf, leaf_nodes, nodes_of, write_nodes}
+use Rattle.core_steps.specs.Points.{Point, Idle, Owning, Taking, Checking, Entering, Entered, Loading, Leaving, Sensing}
+use Rattle.core_steps.specs.Points.{Resolving, Claiming, Storing, Releasing, Returning, Yielding, Stage, AtClaiming}
+use Rattle.core_steps.specs.Points.{stage_of, is_whole, is_writing, is_without_effect}
+use Rattle.core_steps.specs.Reads.{record_read, region_in}
+use Rattle.core_steps.specs.Held.{leaf_word, held_word}
 use Rattle.core_steps.specs.Steps.{taking, point_after_take, first_yield}
 use Rattle.core_steps.specs.Machine.{Next, beginning, TakeNode, ClaimNode, resolving, quitting, committing, giving, index_of}
 use Rattle.core_steps.specs.Stands.{IsAt, IsClaimingAfter}

@@ -7,8 +7,13 @@ use Rattle.std.proofs.lemmas.Option.{same_Some}
 use Rattle.core_steps.specs.declared.sizes.TheConstants.{NODE_HOLDERS}
 use Rattle.atomic_table.specs.Seated.{TableId}
 use Rattle.areanode.specs.Trees.{IsTreeDepth, leaf_node, leaves_of}
-use Rattle.core_steps.specs.Views as views
-use Rattle.core_steps.specs.Views.{Fixed, View, Point, Idle, Owning, Taking, Checking, Entering, Entered, Loading, Leaving, Sensing, Resolving, Claiming, Storing, Releasing, Returning, Yielding, is_leaf, inner_nodes, leaf_word, leaf_nodes, region_in, held_word, stage_of, is_whole, is_writing}
+use Rattle.core_steps.specs.Reads as core_reads
+use Rattle.core_steps.specs.Nodes.{Fixed, is_leaf, inner_nodes, leaf_nodes}
+use Rattle.core_steps.specs.Points.{Point, Idle, Owning, Taking, Checking, Entering, Entered, Loading, Leaving, Sensing}
+use Rattle.core_steps.specs.Points.{Resolving, Claiming, Storing, Releasing, Returning, Yielding, stage_of, is_whole}
+use Rattle.core_steps.specs.Points.{is_writing}
+use Rattle.core_steps.specs.Reads.{View, region_in}
+use Rattle.core_steps.specs.Held.{leaf_word, held_word}
 use Rattle.core_steps.specs.Steps.{taking, point_after_take, view_after_take, view_after_refusal}
 use Rattle.core_steps.specs.Machine.{Next, Begin, LoadOwn, LoadAgain, TakeNode, ClaimNode, ReadList, ReadPlayer, ReadState, CommitMove, StoreWord, GiveNode, YieldNode, YieldCount}
 use Rattle.core_steps.specs.Stands.{IsTaking, IsAt}
@@ -169,7 +174,7 @@ module _ (F : Fixed) (p : PassView) (node : ℕ) where
 
 -- ---- tried again
 
-module _ (F : Fixed) (view : View) (refusals : ℕ) (refused : Option views.Refused) where
+module _ (F : Fixed) (view : View) (refusals : ℕ) (refused : Option core_reads.Refused) where
   abbrev tried_view : Point → View
   tried_view point = record view { point = point; refusals = refusals; refused = refused }
 

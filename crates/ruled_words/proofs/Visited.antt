@@ -5,7 +5,9 @@ use Rattle.std.proofs.lemmas.Bool.{cases_Bool, cond-true, cond-false, eqb-true, 
 use Rattle.std.proofs.lemmas.Nat.Bits.{bit_at-zero}
 use Rattle.std.proofs.Math.Bool.{and-false, and-true, and-not_self, or-false, or-true}
 use Rattle.areanode.specs.Words.{has_bit}
-use Rattle.core_steps.specs.Views.{Fixed, View, Point, Entered, Loading, Leaving, PlayerRead, player_at, without_player, players_in, is_leaf}
+use Rattle.core_steps.specs.Nodes.{Fixed, is_leaf}
+use Rattle.core_steps.specs.Points.{Point, Entered, Loading, Leaving}
+use Rattle.core_steps.specs.Reads.{View, PlayerRead, player_at, without_player, players_in}
 use Rattle.core_steps.specs.Steps.{loading}
 use Rattle.core_steps.specs.Machine.{Next, ReadList}
 use Rattle.core_steps.proofs.Players.{without_other}

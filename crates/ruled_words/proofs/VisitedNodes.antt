@@ -8,7 +8,10 @@ use Rattle.core_steps.specs.declared.sizes.TheConstants.{NODE_HOLDERS}
 use Rattle.areanode.specs.Words.{has_bit}
 use Rattle.arena_geo.specs.Bounds.{Bounds}
 use Rattle.areanode.specs.Trees.{leaf_node, leaves_of, visited_of}
-use Rattle.core_steps.specs.Views.{Fixed, Point, Entering, Entered, Leaving, PlayerRead, player_at, is_leaf, inner_nodes, plan_of, region_in, inner_visited, leaf_word, held_word, stage_of}
+use Rattle.core_steps.specs.Nodes.{Fixed, is_leaf, inner_nodes, plan_of, inner_visited}
+use Rattle.core_steps.specs.Points.{Point, Entering, Entered, Leaving, stage_of}
+use Rattle.core_steps.specs.Reads.{PlayerRead, player_at, region_in}
+use Rattle.core_steps.specs.Held.{leaf_word, held_word}
 use Rattle.core_steps.specs.Steps.{loading, visiting, point_after_take, view_after_give}
 use Rattle.core_steps.specs.Machine.{Next, TakeNode, GiveNode}
 use Rattle.core_seats.specs.declared.refusals.Refusals.{Refusals}

@@ -16,7 +16,7 @@ use Rattle.world_tree.specs.Live.{record_at, live_in, ids_of}
 use Rattle.world_tree.specs.Worlds.{WorldView, record_of, IsLinked}
 use Rattle.world_tree.proofs.LiveRecords.{live-suc}
 use Rattle.core_steps.specs.Encoding.{words_of, nth_word}
-use Rattle.core_steps.specs.Views.{has, home}
+use Rattle.core_steps.specs.Nodes.{has, home}
 use Rattle.std.proofs.lemmas.Option.{same_Some, none-some}
 use Rattle.std.proofs.Math.Bool.{and-false}
 use Rattle.entity_recs.specs.declared.limits.TheConstants.{IDS}

@@ -9,7 +9,8 @@ use Rattle.entity_recs.specs.Histories.{Item, run, IsLegal, places_of}
 use Rattle.world_tree.specs.Live.{IsEntry}
 use Rattle.core_steps.specs.Cells.{Body, State, cell_index}
 use Rattle.core_steps.specs.Encoding.{record_from}
-use Rattle.core_steps.specs.Views.{Fixed, View, has}
+use Rattle.core_steps.specs.Nodes.{Fixed, has}
+use Rattle.core_steps.specs.Reads.{View}
 use Rattle.core_steps.specs.Stands.{is_live_cell, value_in, ended_log, is_ended, items_below}
 
 -- each other seat that was made was ended into this one

@@ -1,7 +1,9 @@
 -- When a seat may go on, and the view after a look at the count.
 use Rattle.std.specs.Prelude.{ℕ, ◌%◌, ◌≡◌, Bool, true, if◌then◌else◌, Option, Some}
 use Rattle.entity_recs.specs.Commands.{Command}
-use Rattle.core_steps.specs.Views.{Fixed, Idle, View}
+use Rattle.core_steps.specs.Nodes.{Fixed}
+use Rattle.core_steps.specs.Points.{Idle}
+use Rattle.core_steps.specs.Reads.{View}
 use Rattle.core_steps.specs.Steps.{first_yield, is_taking}
 use Rattle.core_steps.specs.Machine.{Next, next_at, quitting, IsPending}
 

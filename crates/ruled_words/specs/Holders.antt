@@ -3,8 +3,11 @@ use Rattle.std.specs.Prelude.{◌≡◌, ◌≢◌, ℕ, ◌-◌, ◌%◌, ◌<�
 use Rattle.core_steps.specs.declared.sizes.TheConstants.{MOST_SEATS}
 use Rattle.areanode.specs.Words.{has_bit}
 use Rattle.areanode.specs.Trees.{leaves_of}
-use Rattle.core_steps.specs.Views.{Fixed, View, stage_of, holds, held_word, region_in, inner_nodes, is_leaf, leaf_nodes}
-use Rattle.core_steps.specs.Views.{inner_visited, has}
+use Rattle.core_steps.specs.Nodes.{Fixed, inner_nodes, is_leaf, leaf_nodes}
+use Rattle.core_steps.specs.Points.{stage_of}
+use Rattle.core_steps.specs.Reads.{View, region_in}
+use Rattle.core_steps.specs.Held.{holds, held_word}
+use Rattle.core_steps.specs.Nodes.{inner_visited, has}
 use Rattle.core_steps.specs.Stands.{IsGiven}
 use Rattle.core_steps.specs.Machine.{Next}
 use Rattle.core_steps.specs.Calls.{node_taken}

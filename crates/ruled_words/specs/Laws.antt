@@ -11,7 +11,9 @@ use mathlib.Core.Option as maybe
 use lib.ListN.{get_elem?}
 use Rattle.atomic_table.specs.Table.{State, keeps, stepped, opening}
 use Rattle.entity_recs.specs.Commands.{Command}
-use Rattle.core_steps.specs.Views.{Fixed, Stage, is_writing, has, nodes_of, is_leaf, leaf_nodes, held_word}
+use Rattle.core_steps.specs.Nodes.{Fixed, has, nodes_of, is_leaf, leaf_nodes}
+use Rattle.core_steps.specs.Points.{Stage, is_writing}
+use Rattle.core_steps.specs.Held.{held_word}
 use Rattle.core_steps.specs.Stands.{IsLawful, IsStart, start_core}
 use Rattle.core_steps.specs.Machine.{Next, index_of}
 use Rattle.ruled_words.specs.Sights.{HeldWord, IsOneOf, AreRefusalsServed, SightView, sight_found, no_sight}

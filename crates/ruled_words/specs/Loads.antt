@@ -2,7 +2,8 @@
 use Rattle.std.specs.Prelude.{◌≡◌, ℕ, ◌<◌, true, List, [], ◌∷◌, length, Option, Some, None}
 use Rattle.atomic_table.specs.Seated.{TableId}
 use Rattle.entity_recs.specs.declared.rec.Rec.{Rec}
-use Rattle.core_steps.specs.Views.{Fixed, View, record_read}
+use Rattle.core_steps.specs.Nodes.{Fixed}
+use Rattle.core_steps.specs.Reads.{View, record_read}
 use Rattle.core_steps.specs.Machine.{Next, Begin, LoadOwn, LoadAgain, ReadPlayer}
 use Rattle.core_seats.specs.Nexts.{the_next}
 use Rattle.ruled_words.specs.Passes.{PassView, next_of_pass, pass_after, IsPassOf}

@@ -8,7 +8,8 @@ use Rattle.entity_recs.specs.Actions.{Meaning}
 use Rattle.entity_recs.specs.declared.effect.Effect.{Effect}
 use Rattle.entity_recs.specs.Commands.{Command}
 use Rattle.world_tree.specs.Worlds.{WorldView}
-use Rattle.core_steps.specs.Views.{Fixed, Refused, View, is_leaf, record_read, effect_loaded}
+use Rattle.core_steps.specs.Nodes.{Fixed, is_leaf}
+use Rattle.core_steps.specs.Reads.{Refused, View, record_read, effect_loaded}
 use Rattle.core_steps.specs.Steps.{is_taking}
 use Rattle.core_steps.specs.Machine.{Next, ReadList, ReadPlayer}
 use Rattle.core_steps.specs.Machine.{ReadState, GiveNode, YieldNode, YieldCount, index_of}

@@ -8,7 +8,9 @@ use Rattle.atomic_table.specs.Table.{State}
 use Rattle.entity_recs.specs.Worlds.{World}
 use Rattle.entity_recs.specs.Histories.{Item}
 use Rattle.core_steps.specs.Cells.{word_at}
-use Rattle.core_steps.specs.Views.{Fixed, Ended, new_view, stage_of, is_busy}
+use Rattle.core_steps.specs.Nodes.{Fixed}
+use Rattle.core_steps.specs.Points.{stage_of, is_busy}
+use Rattle.core_steps.specs.Reads.{Ended, new_view}
 use Rattle.core_steps.specs.Steps.{Core}
 use Rattle.core_steps.specs.Stands.{IsLawful, IsStart}
 use Rattle.core_steps.specs.Machine.{Machine, MachineStands}

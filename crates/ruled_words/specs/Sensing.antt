@@ -1,7 +1,7 @@
 -- A move as straight code: the states of the things that its region touches are loaded.
 use Rattle.std.specs.Prelude.{ℕ, List, []}
 use Rattle.entity_recs.specs.declared.effect.NewState.{NewState}
-use Rattle.core_steps.specs.Views.{Point, Sensing}
+use Rattle.core_steps.specs.Points.{Point, Sensing}
 use Rattle.core_steps.specs.Steps.{rest_of, sensing}
 use Rattle.ruled_words.specs.Passes.{PassView}
 use Rattle.ruled_words.specs.Straight.{in_view}

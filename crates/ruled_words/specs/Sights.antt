@@ -1,6 +1,7 @@
 -- What a seat of the table has in view.
 use Rattle.std.specs.Prelude.{ℕ, suc, ◌+◌, ◌≡◌, ◌==◌, if◌then◌else◌, List, [], ◌∷◌, ◌++◌, Option, Some, None, ◌⊎◌}
-use Rattle.core_steps.specs.Views.{Fixed, View, new_view, spent}
+use Rattle.core_steps.specs.Nodes.{Fixed}
+use Rattle.core_steps.specs.Reads.{View, new_view, spent}
 use Rattle.core_steps.specs.Steps.{with_ended}
 use Rattle.core_steps.specs.Machine.{Next, Begin}
 use Rattle.core_steps.specs.Calls.{node_taken}

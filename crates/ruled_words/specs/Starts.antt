@@ -7,7 +7,7 @@ use Rattle.entity_recs.specs.Worlds.{World, zero_vector, world_of}
 use Rattle.world_tree.specs.Live.{live_in}
 use Rattle.world_tree.specs.Worlds.{WorldView}
 use Rattle.core_steps.specs.Cells.{word_at}
-use Rattle.core_steps.specs.Views.{Fixed, home}
+use Rattle.core_steps.specs.Nodes.{Fixed, home}
 use Rattle.core_steps.specs.Stands.{is_player, start_words}
 use Rattle.core_seats.specs.Shown.{RulesView, fixed_of}
 

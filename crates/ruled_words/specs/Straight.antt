@@ -2,7 +2,9 @@
 use Rattle.std.specs.Prelude.{◌≡◌, ℕ, ◌<◌, Bool, true, false, if◌then◌else◌, List, [], ◌++◌, Some, None, get_or}
 use Rattle.areanode.specs.Words.{has_bit}
 use Rattle.entity_recs.specs.Commands.{Command}
-use Rattle.core_steps.specs.Views.{Fixed, View, Point, Taking, PlayerRead, player_at, leaf_nodes, region_in, things_in}
+use Rattle.core_steps.specs.Nodes.{Fixed, leaf_nodes}
+use Rattle.core_steps.specs.Points.{Point, Taking}
+use Rattle.core_steps.specs.Reads.{View, PlayerRead, player_at, region_in, things_in}
 use Rattle.core_steps.specs.Steps.{sensing}
 use Rattle.ruled_words.specs.Sights.{HeldWord, Tally}
 use Rattle.ruled_words.specs.Passes.{PassView}

@@ -1,6 +1,7 @@
 -- A take that may be refused, in a move as straight code.
 use Rattle.std.specs.Prelude.{◌≡◌, ℕ, ◌==◌, Bool}
-use Rattle.core_steps.specs.Views.{Fixed, Point}
+use Rattle.core_steps.specs.Nodes.{Fixed}
+use Rattle.core_steps.specs.Points.{Point}
 use Rattle.core_seats.specs.Nexts.{the_next}
 use Rattle.ruled_words.specs.Passes.{PassView, next_of_pass, pass_after}
 use Rattle.ruled_words.specs.Straight.{in_view_with, at_point}

@@ -1,6 +1,7 @@
 -- How the nodes of a region are read, in a move as straight code.
 use Rattle.std.specs.Prelude.{ℕ, List, []}
-use Rattle.core_steps.specs.Views.{Fixed, Point, Entering, Entered, Leaving}
+use Rattle.core_steps.specs.Nodes.{Fixed}
+use Rattle.core_steps.specs.Points.{Point, Entering, Entered, Leaving}
 use Rattle.core_steps.specs.Steps.{loading}
 use Rattle.ruled_words.specs.Passes.{PassView}
 use Rattle.ruled_words.specs.Straight.{in_view, in_view_with}

@@ -1,7 +1,8 @@
 -- What a step does to its word, and what it asks.
 use Rattle.std.specs.Prelude.{◌≡◌, ℕ, ◌+◌, ◌<◌, ◌==◌, if◌then◌else◌}
 use Rattle.core_steps.specs.Cells.{with_bit, without_bit}
-use Rattle.core_steps.specs.Views.{Fixed, View}
+use Rattle.core_steps.specs.Nodes.{Fixed}
+use Rattle.core_steps.specs.Reads.{View}
 use Rattle.core_steps.specs.Machine.{Next}
 use Rattle.core_seats.specs.Going.{view_found}
 use Rattle.ruled_words.specs.declared.word_step.WordStep.{WordStep}

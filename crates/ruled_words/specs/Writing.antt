@@ -3,8 +3,12 @@ use Rattle.std.specs.Prelude.{◌≡◌, ℕ, suc, List, [], ◌∷◌, ◌++◌
 use Rattle.entity_recs.specs.declared.effect.Effect.{Effect}
 use Rattle.entity_recs.specs.declared.effect.NewState.{NewState}
 use Rattle.core_steps.specs.Cells.{State}
-use Rattle.core_steps.specs.Views.{Fixed, View, Point, Resolving, Claiming, Storing, Releasing, Store, Put}
-use Rattle.core_steps.specs.Views.{record_read, write_nodes, stores_owed, without_command}
+use Rattle.core_steps.specs.Nodes.{Fixed}
+use Rattle.core_steps.specs.Points.{Point, Resolving, Claiming, Storing, Releasing, Store, Put}
+use Rattle.core_steps.specs.Reads.{View}
+use Rattle.core_steps.specs.Nodes.{write_nodes}
+use Rattle.core_steps.specs.Points.{stores_owed}
+use Rattle.core_steps.specs.Reads.{record_read, without_command}
 use Rattle.core_steps.specs.Steps.{rest_of, item_at, view_after_commit}
 use Rattle.ruled_words.specs.Passes.{PassView}
 use Rattle.ruled_words.specs.Straight.{in_view_with, IsTriedOn}

@@ -1,6 +1,6 @@
 ghost use Rattle.std.specs.Prelude.{◌≡◌, ◌<◌};
 ghost use Rattle.areanode.specs.declared.sizes.TheConstants.{MOST_LEAVES};
-ghost use Rattle.core_steps.specs.Views.{inner_nodes};
+ghost use Rattle.core_steps.specs.Nodes.{inner_nodes};
 ghost use Rattle.ruled_words.specs.Passes.{fixed_in};
 ghost use Rattle.ruled_words.specs.Rule.{HasSomeRooms};
 ghost use Rattle.ruled_words.specs.Starts.{rules_of};

@@ -1,6 +1,8 @@
 ghost use Rattle.std.specs.Prelude.{◌≡◌, ◌+◌, ◌^◌, ◌<◌, ◌≤◌};
-ghost use Rattle.core_steps.specs.Views.{Resolving, effect_loaded, home, record_read};
-ghost use Rattle.core_steps.specs.Views.{inner_of_two};
+ghost use Rattle.core_steps.specs.Nodes.{home};
+ghost use Rattle.core_steps.specs.Points.{Resolving};
+ghost use Rattle.core_steps.specs.Reads.{effect_loaded, record_read};
+ghost use Rattle.core_steps.specs.Nodes.{inner_of_two};
 ghost use Rattle.core_seats.specs.Refusals.{AreRefusals};
 ghost use Rattle.ruled_words.specs.Passes.{fixed_in, IsOwn};
 ghost use Rattle.ruled_words.specs.Writing.{HasTried, nodes_written, view_after_stores};

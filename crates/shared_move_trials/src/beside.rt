@@ -1,5 +1,5 @@
 ghost use Rattle.std.specs.Prelude.{◌≡◌, true, length, None};
-ghost use Rattle.core_steps.specs.Views.{has};
+ghost use Rattle.core_steps.specs.Nodes.{has};
 ghost use Rattle.ruled_words.specs.Passes.{fixed_in};
 ghost use Rattle.trial_passes.specs.Trials.{IsFree};
 
@@ -23,7 +23,7 @@ pub(crate) struct Second<'a, A: Action> {
 impl<'a, A: Action> Model for Second<'a, A> {
     ghost use Rattle.std.specs.Prelude.{◌≡◌, true, length, Option, None};
     ghost use Rattle.entity_recs.specs.declared.effect.Entry.{Entry};
-    ghost use Rattle.core_steps.specs.Views.{has};
+    ghost use Rattle.core_steps.specs.Nodes.{has};
     ghost use Rattle.ruled_words.specs.Passes.{fixed_in};
     ghost use Rattle.trial_passes.specs.Trials.{IsFree};
 

@@ -1,6 +1,6 @@
 ghost use Rattle.std.specs.Prelude.{◌≡◌, ◌<◌, true, length, All, IfOk};
 ghost use Rattle.areanode.specs.Trees.{IsTreeDepth};
-ghost use Rattle.core_steps.specs.Views.{has};
+ghost use Rattle.core_steps.specs.Nodes.{has};
 ghost use Rattle.world_tree.specs.Live.{live_in};
 ghost use Rattle.ruled_words.specs.Passes.{fixed_in};
 ghost use Rattle.trial_passes.specs.Trials.{IsFree};

@@ -1,6 +1,7 @@
 ghost use Rattle.std.specs.Prelude.{◌≡◌, ◌%◌, true, length, IfOk};
 ghost use Rattle.areanode.specs.Trees.{IsTreeDepth};
-ghost use Rattle.core_steps.specs.Views.{Idle, has};
+ghost use Rattle.core_steps.specs.Nodes.{has};
+ghost use Rattle.core_steps.specs.Points.{Idle};
 ghost use Rattle.core_steps.specs.Steps.{is_taking};
 ghost use Rattle.ruled_words.specs.Passes.{fixed_in, IsOwn};
 ghost use Rattle.region_locks.specs.Quitting.{MayBegin};

@@ -1,5 +1,5 @@
 ghost use Rattle.std.specs.Prelude.{◌≡◌, true, length, Some, IfOk};
-ghost use Rattle.core_steps.specs.Views.{has};
+ghost use Rattle.core_steps.specs.Nodes.{has};
 ghost use Rattle.ruled_words.specs.Passes.{fixed_in};
 ghost use Rattle.trial_passes.specs.Trials.{IsFree, IsMoving, IsResting};
 

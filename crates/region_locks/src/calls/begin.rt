@@ -1,6 +1,7 @@
 ghost use Rattle.std.specs.Prelude.{◌≡◌, ◌≤◌, ◌%◌, ◌<◌, true, length, Some, None};
 ghost use Rattle.entity_recs.specs.Commands.{command_of};
-ghost use Rattle.core_steps.specs.Views.{Idle, has};
+ghost use Rattle.core_steps.specs.Nodes.{has};
+ghost use Rattle.core_steps.specs.Points.{Idle};
 ghost use Rattle.ruled_words.specs.Going.{view_looked};
 ghost use Rattle.ruled_words.specs.Passes.{fixed_in, sight_of, IsOwn};
 ghost use Rattle.ruled_words.specs.Plays.{IsSoundSight};

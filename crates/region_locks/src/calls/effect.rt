@@ -1,5 +1,6 @@
 ghost use Rattle.std.specs.Prelude.{◌≡◌};
-ghost use Rattle.core_steps.specs.Views.{Resolving, effect_loaded};
+ghost use Rattle.core_steps.specs.Points.{Resolving};
+ghost use Rattle.core_steps.specs.Reads.{effect_loaded};
 ghost use Rattle.ruled_words.specs.Passes.{fixed_in, IsOwn};
 
 use crate::pass::Pass;

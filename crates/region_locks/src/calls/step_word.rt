@@ -1,7 +1,7 @@
 ghost use Rattle.std.specs.Prelude.{◌≡◌, ℕ, List, [], ◌∷◌, ◌++◌, ◌≤◌, true, length, is_some};
 ghost use Rattle.core_steps.specs.declared.step.StepKind.TheVariants.{Commit};
 ghost use Rattle.core_steps.specs.Machine.{ReadPlayer, YieldCount, index_of, kind_of};
-ghost use Rattle.core_steps.specs.Views.{record_read};
+ghost use Rattle.core_steps.specs.Reads.{record_read};
 ghost use Rattle.core_seats.specs.Nexts.{the_next};
 ghost use Rattle.ruled_words.specs.Holders.{IsFoundHeld, AreReached};
 ghost use Rattle.ruled_words.specs.Passes.{fixed_in, word_after, IsOwn, next_in, after_in};

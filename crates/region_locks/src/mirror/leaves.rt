@@ -2,7 +2,7 @@ ghost use Rattle.std.specs.Prelude.{◌≡◌, ◌≤◌, ◌+◌};
 ghost use Rattle.areanode.specs.declared.sizes.TheConstants.{MOST_LEAVES};
 ghost use Rattle.areanode.specs.Words.{word_of};
 ghost use Rattle.areanode.specs.Trees.{IsTreeDepth, leaf_node, leaves_in};
-ghost use Rattle.core_steps.specs.Views.{has};
+ghost use Rattle.core_steps.specs.Nodes.{has};
 
 use crate::pass::Pass;
 use core_seats::with_top_bit;

@@ -1,5 +1,5 @@
 ghost use Rattle.std.specs.Prelude.{◌≡◌, map};
-ghost use Rattle.core_steps.specs.Views.{stores_owed};
+ghost use Rattle.core_steps.specs.Points.{stores_owed};
 ghost use Rattle.core_steps.specs.Cells.{cell_index};
 ghost use Rattle.core_seats.specs.Points.{cell_in, store_of};
 ghost use Rattle.core_seats.specs.Seats.{view_of, hand_of};

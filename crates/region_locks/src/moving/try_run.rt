@@ -1,6 +1,7 @@
 ghost use Rattle.std.specs.Prelude.{◌≡◌, ℕ, ◌%◌, true, length, None, IfOk, IfErr, OnOk};
 ghost use Rattle.entity_recs.specs.Commands.{Command, command_of};
-ghost use Rattle.core_steps.specs.Views.{Fixed, Refused, has, inner_nodes};
+ghost use Rattle.core_steps.specs.Nodes.{Fixed, has, inner_nodes};
+ghost use Rattle.core_steps.specs.Reads.{Refused};
 ghost use Rattle.ruled_words.specs.Passes.{fixed_in, IsOwn};
 ghost use Rattle.region_locks.specs.Quitting.{MayBegin};
 ghost use Rattle.region_locks.specs.Pursuits.{IsRefusedBy};

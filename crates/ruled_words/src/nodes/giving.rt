@@ -1,5 +1,7 @@
 ghost use Rattle.std.specs.Prelude.{◌≡◌, [], Some};
-ghost use Rattle.core_steps.specs.Views.{Releasing, leaf_word, without_command};
+ghost use Rattle.core_steps.specs.Points.{Releasing};
+ghost use Rattle.core_steps.specs.Reads.{without_command};
+ghost use Rattle.core_steps.specs.Held.{leaf_word};
 ghost use Rattle.ruled_words.specs.Passes.{fixed_in, IsOwn, next_in, after_in, node_given_next};
 ghost use Rattle.ruled_words.specs.Straight.{in_view};
 

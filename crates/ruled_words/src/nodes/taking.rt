@@ -1,7 +1,9 @@
 ghost use Rattle.std.specs.Prelude.{◌≡◌, ◌==◌, ℕ, [], Some, if◌then◌else◌};
 ghost use Rattle.core_steps.specs.Machine.{TakeNode};
 ghost use Rattle.core_steps.specs.Steps.{point_after_take, view_after_refusal};
-ghost use Rattle.core_steps.specs.Views.{Taking, Checking, View, leaf_word};
+ghost use Rattle.core_steps.specs.Points.{Taking, Checking};
+ghost use Rattle.core_steps.specs.Reads.{View};
+ghost use Rattle.core_steps.specs.Held.{leaf_word};
 ghost use Rattle.core_seats.specs.Refusals.{AreRefusals};
 ghost use Rattle.ruled_words.specs.Passes.{fixed_in, IsOwn, next_in, node_taken_next, word_after};
 ghost use Rattle.ruled_words.specs.Straight.{IsTriedOn};

@@ -1,7 +1,8 @@
 ghost use Rattle.std.specs.Prelude.{◌≡◌, ◌<◌, ◌≤◌, ◌+◌, [], length};
 ghost use Rattle.entity_recs.specs.Actions.{IsCall};
 ghost use Rattle.entity_recs.specs.Commands.{command_of};
-ghost use Rattle.core_steps.specs.Views.{Resolving, region_in, things_in, effect_loaded};
+ghost use Rattle.core_steps.specs.Points.{Resolving};
+ghost use Rattle.core_steps.specs.Reads.{region_in, things_in, effect_loaded};
 ghost use Rattle.core_steps.specs.Steps.{sensing};
 ghost use Rattle.core_seats.specs.NearKept.{players_kept};
 ghost use Rattle.ruled_words.specs.Passes.{fixed_in, IsOwn};

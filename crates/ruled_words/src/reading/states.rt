@@ -1,7 +1,8 @@
 ghost use Rattle.std.specs.Prelude.{◌≡◌, ◌≤◌, ◌+◌, ◌++◌, ◌∷◌, length};
 ghost use Rattle.std.specs.List.Sorted.{IsStrictlyIncreasing};
 ghost use Rattle.entity_recs.specs.Records.{with_state};
-ghost use Rattle.core_steps.specs.Views.{Sensing, Resolving, region_in, things_in};
+ghost use Rattle.core_steps.specs.Points.{Sensing, Resolving};
+ghost use Rattle.core_steps.specs.Reads.{region_in, things_in};
 ghost use Rattle.core_steps.specs.Steps.{sensing, view_after_state};
 ghost use Rattle.core_seats.specs.NearKept.{AreThings, things_loaded};
 ghost use Rattle.core_seats.specs.ThingStrips.{MarksThings};

@@ -1,7 +1,9 @@
 ghost use Rattle.std.specs.Prelude.{◌≡◌, ◌<◌, ◌%◌, ◌^◌, ℕ, [], bit_or};
 ghost use Rattle.areanode.specs.Trees.{leaves_of, visited_of};
 ghost use Rattle.core_steps.specs.Steps.{visiting};
-ghost use Rattle.core_steps.specs.Views.{Entering, Entered, Leaving, inner_nodes, inner_visited, plan_of, region_in};
+ghost use Rattle.core_steps.specs.Nodes.{inner_nodes, inner_visited, plan_of};
+ghost use Rattle.core_steps.specs.Points.{Entering, Entered, Leaving};
+ghost use Rattle.core_steps.specs.Reads.{region_in};
 ghost use Rattle.core_seats.specs.Refusals.{AreRefusals};
 ghost use Rattle.ruled_words.specs.Passes.{fixed_in, IsOwn};
 ghost use Rattle.ruled_words.specs.Straight.{HasKept, IsTriedOn, in_view, in_view_with, nodes_read};

@@ -6,7 +6,7 @@ use std::marker::{Brand, PhantomData};
 pub trait Planned {
     ghost use Rattle.std.specs.Prelude.{ℕ, Bool, Option};
     ghost use Rattle.entity_recs.specs.Commands.{Command};
-    ghost use Rattle.core_steps.specs.Views.{Fixed};
+    ghost use Rattle.core_steps.specs.Nodes.{Fixed};
     ghost use Rattle.core_steps.specs.Machine.{Next};
 
     ghost fixed: { Fixed };

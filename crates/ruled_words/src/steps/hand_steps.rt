@@ -2,7 +2,8 @@ ghost use Rattle.std.specs.Prelude.{◌≡◌, ℕ, List, [], ◌∷◌, ◌++�
 ghost use Rattle.entity_recs.specs.Commands.{command_of};
 ghost use Rattle.core_steps.specs.declared.step.StepKind.TheVariants.{Commit};
 ghost use Rattle.core_steps.specs.Machine.{ReadPlayer, IsPending, index_of, kind_of};
-ghost use Rattle.core_steps.specs.Views.{Idle, record_read};
+ghost use Rattle.core_steps.specs.Points.{Idle};
+ghost use Rattle.core_steps.specs.Reads.{record_read};
 ghost use Rattle.core_seats.specs.Nexts.{the_next};
 ghost use Rattle.core_seats.specs.Seats.{view_of};
 ghost use Rattle.ruled_words.specs.Going.{IsAtRest, view_looked};

@@ -1,5 +1,6 @@
 ghost use Rattle.std.specs.Prelude.{◌≡◌, ◌+◌, ◌∷◌, suc, Some, if◌then◌else◌};
-ghost use Rattle.core_steps.specs.Views.{Resolving, Claiming, effect_loaded};
+ghost use Rattle.core_steps.specs.Points.{Resolving, Claiming};
+ghost use Rattle.core_steps.specs.Reads.{effect_loaded};
 ghost use Rattle.core_steps.specs.Steps.{first, view_after_take, view_after_claim};
 ghost use Rattle.core_seats.specs.Refusals.{AreRefusals};
 ghost use Rattle.ruled_words.specs.Passes.{fixed_in, IsOwn};

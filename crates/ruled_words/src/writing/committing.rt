@@ -1,5 +1,6 @@
 ghost use Rattle.std.specs.Prelude.{◌≡◌, ◌+◌, ◌^◌, ◌<◌, ◌≤◌, [], Some};
-ghost use Rattle.core_steps.specs.Views.{Resolving, Claiming, effect_loaded};
+ghost use Rattle.core_steps.specs.Points.{Resolving, Claiming};
+ghost use Rattle.core_steps.specs.Reads.{effect_loaded};
 ghost use Rattle.core_steps.specs.Steps.{view_after_commit};
 ghost use Rattle.ruled_words.specs.Passes.{fixed_in, IsOwn};
 ghost use Rattle.ruled_words.specs.Straight.{in_view};

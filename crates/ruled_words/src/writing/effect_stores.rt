@@ -1,6 +1,7 @@
 ghost use Rattle.std.specs.Prelude.{◌≡◌, ◌∷◌, ◌++◌, map, length};
 ghost use Rattle.core_steps.specs.Cells.{Body, State};
-ghost use Rattle.core_steps.specs.Views.{Releasing, Clear, Put, Link, body_stores, stores_of, home};
+ghost use Rattle.core_steps.specs.Nodes.{home};
+ghost use Rattle.core_steps.specs.Points.{Releasing, Clear, Put, Link, body_stores, stores_of};
 ghost use Rattle.core_steps.specs.Steps.{storing};
 ghost use Rattle.ruled_words.specs.Passes.{fixed_in, IsOwn};
 ghost use Rattle.ruled_words.specs.Straight.{in_view};

@@ -1,6 +1,6 @@
 use Rattle.std.proofs.Common.{sym, ap, ◌∙◌, subst}
 use Rattle.entity_recs.specs.Records.{IsRecord}
-use Rattle.core_steps.specs.Views.{home}
+use Rattle.core_steps.specs.Nodes.{home}
 use Rattle.core_steps.proofs.Runs.{start_world}
 use Rattle.core_seats.specs.Shown.{fixed_of}
 use Rattle.core_seats.specs.Starts.{record_at}

@@ -1,6 +1,6 @@
 use Rattle.std.proofs.Common.{ℕ, Bool, ◌<◌, ◌^◌, ◌+◌, ◌&&◌, ◌==◌, sym, ◌∙◌, ap, subst, if◌then◌else◌}
 use Rattle.areanode.proofs.Words.{word_of-below, word_none, word_next}
-use Rattle.core_steps.specs.Views.{home}
+use Rattle.core_steps.specs.Nodes.{home}
 use Rattle.core_steps.specs.Stands.{is_player}
 use Rattle.core_seats.specs.Shown.{fixed_of}
 use Rattle.core_machine.proofs.start.links_at_start.Goals as goal

@@ -1,6 +1,6 @@
 use Rattle.std.proofs.Common.{◌≡◌, ◌&&◌, ◌==◌}
 use Rattle.areanode.specs.Words.{word_of}
-use Rattle.core_steps.specs.Views.{home}
+use Rattle.core_steps.specs.Nodes.{home}
 use Rattle.core_steps.specs.Stands.{is_player}
 use Rattle.core_seats.specs.Shown.{fixed_of}
 use Rattle.core_machine.proofs.start.links_at_start.Given as goal

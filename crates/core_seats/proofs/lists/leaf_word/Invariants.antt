@@ -1,7 +1,7 @@
 use Rattle.std.proofs.Common.{◌≡◌, ◌≤◌, ◌*◌, ◌-◌, ◌^◌, ℕ, take, map}
 use Rattle.areanode.specs.Trees.{inner_in}
 use Rattle.areanode.specs.declared.sizes.TheConstants.{MOST_LEAVES}
-use Rattle.core_steps.specs.Views.{bits_of_leaves}
+use Rattle.core_steps.specs.Held.{bits_of_leaves}
 use Rattle.core_seats.proofs.lists.leaf_word.Given as goal
 
 abbrev pub invariant-loop-node : goal.invariant-loop-node

@@ -1,6 +1,6 @@
 use Rattle.std.proofs.Common.{◌≡◌, false, map, sym, ◌∙◌}
 use Rattle.std.specs.Prelude.{is_some}
-use Rattle.core_steps.specs.Views.{player_at}
+use Rattle.core_steps.specs.Reads.{player_at}
 use Rattle.core_seats.specs.Seats.{player_read_of}
 use Rattle.core_seats.proofs.ReadLists.{none_dropped}
 use Rattle.core_seats.proofs.loading.drop_read.Goals as goal

@@ -1,6 +1,6 @@
 use Rattle.std.proofs.Common.{◌≡◌, ◌<◌, ℕ, map, take}
 use Rattle.areanode.specs.Words.{has_bit}
-use Rattle.core_steps.specs.Views.{has}
+use Rattle.core_steps.specs.Nodes.{has}
 use Rattle.entity_recs.specs.declared.rec.Rec.{Rec}
 use Rattle.core_seats.proofs.near_kept.player_bits.Given as goal
 

@@ -1,5 +1,5 @@
 use Rattle.std.proofs.Common.{◌≡◌, drop, map}
-use Rattle.core_steps.specs.Views.{player_at}
+use Rattle.core_steps.specs.Reads.{player_at}
 use Rattle.core_seats.specs.Seats.{player_read_of}
 use Rattle.core_seats.proofs.reads.player_words.Given as goal
 

@@ -1,5 +1,5 @@
 use Rattle.std.proofs.Common.{◌≡◌, drop}
-use Rattle.core_steps.specs.Views.{state_at}
+use Rattle.core_steps.specs.Reads.{state_at}
 use Rattle.core_seats.proofs.reads.thing_state.Given as goal
 
 abbrev pub invariant-loop-read : goal.invariant-loop-read

@@ -1,7 +1,7 @@
 use Rattle.std.proofs.Common.{◌≡◌, ◌+◌, length, map, refl, sym, ap, ◌∙◌, subst, arith}
 use Rattle.entity_recs.specs.declared.rec.Rec.{Rec}
 use Rattle.entity_recs.specs.Commands.{command_of}
-use Rattle.core_steps.specs.Views.{has}
+use Rattle.core_steps.specs.Nodes.{has}
 use Rattle.core_steps.specs.Machine.{Machine}
 use Rattle.core_steps.specs.Calls.{MayBeGiven, with_given}
 use Rattle.core_seats.specs.Shown.{RulesView, fixed_of}

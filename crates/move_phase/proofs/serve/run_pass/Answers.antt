@@ -1,6 +1,6 @@
 use Rattle.std.proofs.Common.{◌≡◌, length, true}
 use Rattle.entity_recs.specs.Commands.{Command}
-use Rattle.core_steps.specs.Views.{has}
+use Rattle.core_steps.specs.Nodes.{has}
 use Rattle.ruled_words.specs.Passes.{fixed_in}
 use Rattle.move_phase.proofs.Running.{command_at, room_for_next}
 use Rattle.move_phase.proofs.serve.run_pass.Goals as goal

@@ -3,7 +3,7 @@ ghost use Rattle.entity_recs.specs.declared.kind.Kind.TheVariants.{Player};
 ghost use Rattle.entity_recs.specs.Records.{IsRecord, with_state};
 ghost use Rattle.arena_actions.specs.MapActions.{meaning_in};
 ghost use Rattle.world_tree.specs.Live.{live_in};
-ghost use Rattle.core_steps.specs.Views.{has};
+ghost use Rattle.core_steps.specs.Nodes.{has};
 ghost use Rattle.ruled_words.specs.Passes.{fixed_in, IsOwn};
 ghost use Rattle.trial_passes.specs.Trials.{IsFree, IsMoving, IsResting};
 

@@ -1,5 +1,5 @@
 use Rattle.std.proofs.Common.{refl, subst, ℕ, ◌<◌, ◌^◌, slice_index}
-use Rattle.core_steps.specs.Views.{Fixed}
+use Rattle.core_steps.specs.Nodes.{Fixed}
 use Rattle.core_steps.specs.Stands.{IsLawful}
 use Rattle.ruled_words.specs.Starts.{fixed_by}
 use Rattle.ruled_words.proofs.Starting.{start_is_ruled}

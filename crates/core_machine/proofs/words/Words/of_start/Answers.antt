@@ -1,7 +1,7 @@
 use Rattle.std.proofs.Common.{◌≡◌, ◌∙◌, ℕ, List, ap}
 use Rattle.core_steps.specs.Encoding.{nth_word}
 use Rattle.core_steps.specs.declared.sizes.TheConstants.{TABLE_NODES, TABLE_STATES}
-use Rattle.core_steps.specs.Views.{has}
+use Rattle.core_steps.specs.Nodes.{has}
 use Rattle.core_steps.specs.Stands.{is_player, start_words}
 use Rattle.core_seats.specs.Shown.{fixed_of}
 use Rattle.core_machine.specs.Tables.{within}

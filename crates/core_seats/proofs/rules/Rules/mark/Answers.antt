@@ -1,6 +1,7 @@
 use Rattle.std.proofs.Common.{sym, ap, ◌∙◌}
 use Rattle.std.proofs.lemmas.Bool.{cond-true}
-use Rattle.core_steps.specs.Views.{is_leaf, leaf_word}
+use Rattle.core_steps.specs.Nodes.{is_leaf}
+use Rattle.core_steps.specs.Held.{leaf_word}
 use Rattle.core_seats.specs.Shown.{RulesView, fixed_of}
 use Rattle.core_seats.proofs.rules.Rules.mark.Goals as goal
 

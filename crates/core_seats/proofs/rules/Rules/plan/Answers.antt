@@ -2,7 +2,7 @@ use Rattle.std.proofs.Common.{◌++◌, ℕ, List, ap, ◌∙◌}
 use Rattle.std.specs.Prelude.{filter}
 use Rattle.std.specs.List.{range_with_len}
 use Rattle.areanode.specs.Words.{has_bit}
-use Rattle.core_steps.specs.Views.{leaf_nodes}
+use Rattle.core_steps.specs.Nodes.{leaf_nodes}
 use Rattle.core_seats.specs.Shown.{fixed_of}
 use Rattle.core_seats.proofs.Fixing.{leaf_nodes_are, inner_visited_are}
 use Rattle.core_seats.proofs.rules.Rules.plan.Goals as goal

@@ -2,7 +2,7 @@ use Rattle.std.proofs.Common.{◌==◌, length, map, refl, sym, ap, ◌∙◌, a
 use Rattle.std.specs.Prelude.{filter, not}
 use Rattle.std.proofs.lemmas.List.{length-map}
 use Rattle.entity_recs.specs.Actions.{HasValidity}
-use Rattle.core_steps.specs.Views as views
+use Rattle.core_steps.specs.Points as core_points
 use Rattle.core_seats.specs.declared.seat.PlayerRead.{PlayerRead}
 use Rattle.core_seats.specs.Points.{point_of, store_of}
 use Rattle.core_seats.specs.Seats.{view_of, given_of, list_read_of, player_read_of}
@@ -20,7 +20,7 @@ load_own-requires-clause-player g c κs within =
 pub load_again-requires-clause-player : goal.load_again-requires-clause-player
 load_again-requires-clause-player g c κs within =
     let F = fixed_of g.A.Action.meaning c.args.rules.now in
-    player_at_point F (view_of c.args.self.now) c.requires.ready.sound views.Checking (ap (point_of c.args.self.now.queues) c.in-Checking.is) refl refl
+    player_at_point F (view_of c.args.self.now) c.requires.ready.sound core_points.Checking (ap (point_of c.args.self.now.queues) c.in-Checking.is) refl refl
 
 pub read_list-requires-clause-room : goal.read_list-requires-clause-room
 read_list-requires-clause-room g c κs within =
@@ -32,7 +32,7 @@ read_list-requires-clause-room g c κs within =
 pub read_list-requires-clause-player : goal.read_list-requires-clause-player
 read_list-requires-clause-player g c κs within =
     let F = fixed_of g.A.Action.meaning c.args.rules.now in
-    player_at_point F (view_of c.args.self.now) c.requires.ready.sound (views.Entered c.in-Entered.node c.args.self.now.queues.plan.items) (ap (point_of c.args.self.now.queues) c.in-Entered.is) refl refl
+    player_at_point F (view_of c.args.self.now) c.requires.ready.sound (core_points.Entered c.in-Entered.node c.args.self.now.queues.plan.items) (ap (point_of c.args.self.now.queues) c.in-Entered.is) refl refl
 
 pub read_player-requires-clause-room : goal.read_player-requires-clause-room
 read_player-requires-clause-room g c κs within =
@@ -46,7 +46,7 @@ read_player-requires-clause-room g c κs within =
 pub read_player-requires-clause-player : goal.read_player-requires-clause-player
 read_player-requires-clause-player g c κs within =
     let F = fixed_of g.A.Action.meaning c.args.rules.now in
-    player_at_point F (view_of c.args.self.now) c.requires.ready.sound (views.Loading c.in-Loading.node c.args.self.now.queues.part.items c.args.self.now.queues.players.items c.args.self.now.queues.plan.items) (ap (point_of c.args.self.now.queues) c.in-Loading.is) refl refl
+    player_at_point F (view_of c.args.self.now) c.requires.ready.sound (core_points.Loading c.in-Loading.node c.args.self.now.queues.part.items c.args.self.now.queues.players.items c.args.self.now.queues.plan.items) (ap (point_of c.args.self.now.queues) c.in-Loading.is) refl refl
 
 pub read_state-requires : goal.read_state-requires
 read_state-requires g c =
@@ -57,14 +57,14 @@ read_state-requires g c =
 pub resolve-requires-clause-command : goal.resolve-requires-clause-command
 resolve-requires-clause-command g c κs within =
     let F = fixed_of g.A.Action.meaning c.args.rules.now in
-    command_at F (view_of c.args.self.now) c.requires.ready.sound views.Resolving (ap (point_of c.args.self.now.queues) c.in-Resolving.is) refl
+    command_at F (view_of c.args.self.now) c.requires.ready.sound core_points.Resolving (ap (point_of c.args.self.now.queues) c.in-Resolving.is) refl
 
 pub resolve-requires-clause-before : goal.resolve-requires-clause-before
 resolve-requires-clause-before g c κs within =
     let F = fixed_of g.A.Action.meaning c.args.rules.now in
     let met = g.met.A.Action g.world.𝓛 g.world.𝓜 g.world.𝓡 ((λ s x. x), (λ x. x), (λ x. x), λ x. x) in
     let validity : HasValidity F.takes F.effect_of = met.validity c.args.rules.now.action in
-    before_is_record F (view_of c.args.self.now) c.requires.ready.sound views.Resolving validity (ap (point_of c.args.self.now.queues) c.in-Resolving.is) refl refl
+    before_is_record F (view_of c.args.self.now) c.requires.ready.sound core_points.Resolving validity (ap (point_of c.args.self.now.queues) c.in-Resolving.is) refl refl
 
 pub resolve-requires-clause-after : goal.resolve-requires-clause-after
 resolve-requires-clause-after g c κs within =
@@ -76,7 +76,7 @@ resolve-requires-clause-after g c κs within =
 pub resolve-requires-clause-room : goal.resolve-requires-clause-room
 resolve-requires-clause-room g c κs within =
     let F = fixed_of g.A.Action.meaning c.args.rules.now in
-    log_room F (view_of c.args.self.now) c.requires.ready.sound views.Resolving (ap (point_of c.args.self.now.queues) c.in-Resolving.is) refl
+    log_room F (view_of c.args.self.now) c.requires.ready.sound core_points.Resolving (ap (point_of c.args.self.now.queues) c.in-Resolving.is) refl
 
 pub resolve-requires-clause-count : goal.resolve-requires-clause-count
 resolve-requires-clause-count g c κs within =
@@ -86,26 +86,26 @@ resolve-requires-clause-count g c κs within =
 pub commit_held-requires-clause-command : goal.commit_held-requires-clause-command
 commit_held-requires-clause-command g c κs within =
     let F = fixed_of g.A.Action.meaning c.args.rules.now in
-    command_at F (view_of c.args.self.now) c.requires.ready.sound (views.Claiming c.args.self.now.queues.got.items c.args.self.now.queues.rest.items) (ap (point_of c.args.self.now.queues) c.in-Claiming.is) refl
+    command_at F (view_of c.args.self.now) c.requires.ready.sound (core_points.Claiming c.args.self.now.queues.got.items c.args.self.now.queues.rest.items) (ap (point_of c.args.self.now.queues) c.in-Claiming.is) refl
 
 pub commit_held-requires-clause-before : goal.commit_held-requires-clause-before
 commit_held-requires-clause-before g c κs within =
     let F = fixed_of g.A.Action.meaning c.args.rules.now in
     let met = g.met.A.Action g.world.𝓛 g.world.𝓜 g.world.𝓡 ((λ s x. x), (λ x. x), (λ x. x), λ x. x) in
     let validity : HasValidity F.takes F.effect_of = met.validity c.args.rules.now.action in
-    before_is_record F (view_of c.args.self.now) c.requires.ready.sound (views.Claiming c.args.self.now.queues.got.items c.args.self.now.queues.rest.items) validity (ap (point_of c.args.self.now.queues) c.in-Claiming.is) refl refl
+    before_is_record F (view_of c.args.self.now) c.requires.ready.sound (core_points.Claiming c.args.self.now.queues.got.items c.args.self.now.queues.rest.items) validity (ap (point_of c.args.self.now.queues) c.in-Claiming.is) refl refl
 
 pub commit_held-requires-clause-after : goal.commit_held-requires-clause-after
 commit_held-requires-clause-after g c κs within =
     let F = fixed_of g.A.Action.meaning c.args.rules.now in
     let met = g.met.A.Action g.world.𝓛 g.world.𝓜 g.world.𝓡 ((λ s x. x), (λ x. x), (λ x. x), λ x. x) in
     let validity : HasValidity F.takes F.effect_of = met.validity c.args.rules.now.action in
-    λ e in_view. after_is_record F (view_of c.args.self.now) c.requires.ready.sound (views.Claiming c.args.self.now.queues.got.items c.args.self.now.queues.rest.items) e validity (ap (point_of c.args.self.now.queues) c.in-Claiming.is) refl in_view
+    λ e in_view. after_is_record F (view_of c.args.self.now) c.requires.ready.sound (core_points.Claiming c.args.self.now.queues.got.items c.args.self.now.queues.rest.items) e validity (ap (point_of c.args.self.now.queues) c.in-Claiming.is) refl in_view
 
 pub commit_held-requires-clause-room : goal.commit_held-requires-clause-room
 commit_held-requires-clause-room g c κs within =
     let F = fixed_of g.A.Action.meaning c.args.rules.now in
-    log_room F (view_of c.args.self.now) c.requires.ready.sound (views.Claiming c.args.self.now.queues.got.items c.args.self.now.queues.rest.items) (ap (point_of c.args.self.now.queues) c.in-Claiming.is) refl
+    log_room F (view_of c.args.self.now) c.requires.ready.sound (core_points.Claiming c.args.self.now.queues.got.items c.args.self.now.queues.rest.items) (ap (point_of c.args.self.now.queues) c.in-Claiming.is) refl
 
 pub commit_held-requires-clause-place : goal.commit_held-requires-clause-place
 commit_held-requires-clause-place g c κs within =
@@ -131,7 +131,7 @@ take_next-requires-in-Claiming-2-clause-nodes g c =
 pub give_next-requires-clause-player : goal.give_next-requires-clause-player
 give_next-requires-clause-player g c κs within =
     let F = fixed_of g.A.Action.meaning c.args.rules.now in
-    λ node plan at. player_at_point F (view_of c.args.self.now) c.requires.ready.sound (views.Leaving node plan) at refl refl
+    λ node plan at. player_at_point F (view_of c.args.self.now) c.requires.ready.sound (core_points.Leaving node plan) at refl refl
 
 pub returns-in-Taking-clause-view : goal.returns-in-Taking-clause-view
 returns-in-Taking-clause-view g c =
@@ -146,7 +146,7 @@ returns-in-Entering-clause-view g c =
 pub returns-in-Entered-clause-view : goal.returns-in-Entered-clause-view
 returns-in-Entered-clause-view g c =
     let F = fixed_of g.A.Action.meaning c.args.rules.now in
-    gone F (view_of c.args.self.now) _ (given_of c.args.self.now) c.args.effect.now (views.Entered c.in-Entered.node c.args.self.now.queues.plan.items) _ c.args.found (ap (point_of c.args.self.now.queues) c.in-Entered.is) refl (c.read_list.ensures.view c.in-Entered.node c.args.self.now.queues.plan.items (ap (point_of c.args.self.now.queues) c.in-Entered.is))
+    gone F (view_of c.args.self.now) _ (given_of c.args.self.now) c.args.effect.now (core_points.Entered c.in-Entered.node c.args.self.now.queues.plan.items) _ c.args.found (ap (point_of c.args.self.now.queues) c.in-Entered.is) refl (c.read_list.ensures.view c.in-Entered.node c.args.self.now.queues.plan.items (ap (point_of c.args.self.now.queues) c.in-Entered.is))
 
 pub returns-in-Loading-clause-view : goal.returns-in-Loading-clause-view
 returns-in-Loading-clause-view g c =
@@ -185,14 +185,14 @@ returns-in-Storing-clause-view g c =
 pub returns-in-Releasing-clause-view : goal.returns-in-Releasing-clause-view
 returns-in-Releasing-clause-view g c =
     let F = fixed_of g.A.Action.meaning c.args.rules.now in
-    gave F (view_of c.args.self.now) _ (given_of c.args.self.now) c.args.effect.now (views.Releasing c.args.self.now.queues.got.items) _ c.args.found (ap (point_of c.args.self.now.queues) c.in-Releasing.is) refl c.requires.comes c.give_next-in-Releasing.ensures.view
+    gave F (view_of c.args.self.now) _ (given_of c.args.self.now) c.args.effect.now (core_points.Releasing c.args.self.now.queues.got.items) _ c.args.found (ap (point_of c.args.self.now.queues) c.in-Releasing.is) refl c.requires.comes c.give_next-in-Releasing.ensures.view
 
 pub returns-in-Returning-clause-view : goal.returns-in-Returning-clause-view
 returns-in-Returning-clause-view g c =
     let F = fixed_of g.A.Action.meaning c.args.rules.now in
-    gave F (view_of c.args.self.now) _ (given_of c.args.self.now) c.args.effect.now (views.Returning c.args.self.now.queues.rest.items) _ c.args.found (ap (point_of c.args.self.now.queues) c.in-Returning.is) refl c.requires.comes c.give_next-in-Returning.ensures.view
+    gave F (view_of c.args.self.now) _ (given_of c.args.self.now) c.args.effect.now (core_points.Returning c.args.self.now.queues.rest.items) _ c.args.found (ap (point_of c.args.self.now.queues) c.in-Returning.is) refl c.requires.comes c.give_next-in-Returning.ensures.view
 
 pub returns-in-Yielding-clause-view : goal.returns-in-Yielding-clause-view
 returns-in-Yielding-clause-view g c =
     let F = fixed_of g.A.Action.meaning c.args.rules.now in
-    gave F (view_of c.args.self.now) _ (given_of c.args.self.now) c.args.effect.now (views.Yielding c.args.self.now.queues.got.items c.args.self.now.queues.rest.items) _ c.args.found (ap (point_of c.args.self.now.queues) c.in-Yielding.is) refl c.requires.comes c.give_next-in-Yielding.ensures.view
+    gave F (view_of c.args.self.now) _ (given_of c.args.self.now) c.args.effect.now (core_points.Yielding c.args.self.now.queues.got.items c.args.self.now.queues.rest.items) _ c.args.found (ap (point_of c.args.self.now.queues) c.in-Yielding.is) refl c.requires.comes c.give_next-in-Yielding.ensures.view

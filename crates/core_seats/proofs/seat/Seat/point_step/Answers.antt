@@ -1,5 +1,5 @@
 use Rattle.std.proofs.Common.{arith, ◌≡◌, ◌∙◌, sym, ap, map, ◌∷◌, List, refl}
-use Rattle.core_steps.specs.Views as views
+use Rattle.core_steps.specs.Points as core_points
 use Rattle.core_seats.specs.declared.point.Store.{Store}
 use Rattle.core_seats.specs.Points.{point_of, store_of}
 use Rattle.core_seats.specs.Seats.{view_of, given_of}
@@ -12,18 +12,18 @@ pub state_step-requires : goal.state_step-requires
 state_step-requires g c = λ id rest is.
     let F = fixed_of g.A.Action.meaning c.args.rules.now in
     let ids : c.args.self.now.queues.things.ids ≡ id ∷ rest = sym c.ids.ensures ∙ is in
-    let below = sensed_in F (view_of c.args.self.now) id rest c.is_lawful.ensures c.is_ruled.ensures.start c.requires.sound (ap (point_of c.args.self.now.queues) c.in-Sensing.is ∙ ap views.Sensing ids) in
+    let below = sensed_in F (view_of c.args.self.now) id rest c.is_lawful.ensures c.is_ruled.ensures.start c.requires.sound (ap (point_of c.args.self.now.queues) c.in-Sensing.is ∙ ap core_points.Sensing ids) in
     omega arith
 
 pub resolved_step-requires-clause-before : goal.resolved_step-requires-clause-before
 resolved_step-requires-clause-before g c κs within =
     let F = fixed_of g.A.Action.meaning c.args.rules.now in
-    before_is_record F (view_of c.args.self.now) c.requires.sound views.Resolving c.is_lawful.ensures.validity (ap (point_of c.args.self.now.queues) c.in-Resolving.is) refl refl
+    before_is_record F (view_of c.args.self.now) c.requires.sound core_points.Resolving c.is_lawful.ensures.validity (ap (point_of c.args.self.now.queues) c.in-Resolving.is) refl refl
 
 pub resolved_step-requires-clause-after : goal.resolved_step-requires-clause-after
 resolved_step-requires-clause-after g c κs within = λ e is.
     let F = fixed_of g.A.Action.meaning c.args.rules.now in
-    let at : point_of c.args.self.now.queues c.args.self.now.point ≡ views.Resolving = ap (point_of c.args.self.now.queues) c.in-Resolving.is in
+    let at : point_of c.args.self.now.queues c.args.self.now.point ≡ core_points.Resolving = ap (point_of c.args.self.now.queues) c.in-Resolving.is in
     loaded_is_record F (view_of c.args.self.now) c.requires.sound e c.is_lawful.ensures.validity at (c.requires.due e at is)
 
 pub next_store_step-requires : goal.next_store_step-requires
@@ -31,7 +31,7 @@ next_store_step-requires g c = λ store rest is.
     let F = fixed_of g.A.Action.meaning c.args.rules.now in
     let stores : c.args.self.now.queues.stores.items ≡ store ∷ rest = sym c.as_slice-in-Storing.ensures.value ∙ is in
     owed_in_table F (view_of c.args.self.now) c.args.self.now.queues.got.items store rest c.requires.sound
-    (ap (point_of c.args.self.now.queues) c.in-Storing.is ∙ ap (λ (ss : List Store). views.Storing c.args.self.now.queues.got.items (map store_of ss)) stores)
+    (ap (point_of c.args.self.now.queues) c.in-Storing.is ∙ ap (λ (ss : List Store). core_points.Storing c.args.self.now.queues.got.items (map store_of ss)) stores)
 
 pub returns-in-Loading : goal.returns-in-Loading
 returns-in-Loading g c =

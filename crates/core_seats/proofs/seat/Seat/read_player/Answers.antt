@@ -1,5 +1,5 @@
 use Rattle.std.proofs.Common.{ℕ, List, ap, ◌∙◌, arith}
-use Rattle.core_steps.specs.Views as views
+use Rattle.core_steps.specs.Points as core_points
 use Rattle.core_seats.specs.Points.{point_of}
 use Rattle.core_seats.proofs.seat.Seat.read_player.Goals as goal
 
@@ -14,4 +14,4 @@ load_player-requires-clause-room g c κs within =
     let node = c.in-Loading.node in
     let left = c.pop_first.new.self.items in
     c.requires.room node c.in-Some-pop_first.slot qs.part.items left qs.plan.items
-    (ap (point_of qs) c.in-Loading.is ∙ ap (λ (ns : List ℕ). views.Loading node qs.part.items ns qs.plan.items) c.in-Some-pop_first.ensures)
+    (ap (point_of qs) c.in-Loading.is ∙ ap (λ (ns : List ℕ). core_points.Loading node qs.part.items ns qs.plan.items) c.in-Some-pop_first.ensures)

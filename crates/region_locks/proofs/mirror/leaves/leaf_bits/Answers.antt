@@ -3,7 +3,7 @@ use Rattle.std.proofs.Math.Nat.{pow-le-pow_right}
 use Rattle.areanode.specs.Trees.{leaf_node}
 use Rattle.areanode.specs.declared.sizes.TheConstants.{MOST_LEAVES}
 use Rattle.areanode.proofs.Words.{word_of-below, word_none, word_next}
-use Rattle.core_steps.specs.Views.{has}
+use Rattle.core_steps.specs.Nodes.{has}
 use Rattle.region_locks.proofs.mirror.leaves.leaf_bits.Goals as goal
 
 pub with_top_bit-word-requires-clause-below : goal.with_top_bit-word-requires-clause-below

@@ -1,6 +1,6 @@
 use Rattle.std.proofs.Common.{ap, ◌∙◌}
 use Rattle.areanode.specs.Trees.{leaves_of}
-use Rattle.core_steps.specs.Views.{Fixed}
+use Rattle.core_steps.specs.Nodes.{Fixed}
 use Rattle.entity_recs.specs.Commands.{command_of}
 use Rattle.ruled_words.specs.Passes.{fixed_in}
 use Rattle.core_seats.specs.Shown.{fixed_of}

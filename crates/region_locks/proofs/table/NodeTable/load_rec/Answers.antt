@@ -1,6 +1,6 @@
 use Rattle.std.proofs.Common.{◌≡◌, ◌+◌, ◌<◌, ◌++◌, ◌∷◌, ℕ, List, [], length, sym, ap, ◌∙◌, subst, arith}
 use Rattle.core_steps.specs.Cells.{cell_of, cell_index}
-use Rattle.core_steps.specs.Views.{record_read}
+use Rattle.core_steps.specs.Reads.{record_read}
 use Rattle.core_steps.proofs.Owned.{longer}
 use Rattle.ruled_words.specs.Passes.{fixed_in}
 use Rattle.ruled_words.specs.Loads.{IsLoading}

@@ -1,6 +1,6 @@
 use Rattle.std.proofs.Common.{◌≡◌, List, ◌∷◌, length, All, sym, ap, ◌∙◌, subst}
 use Rattle.atomic_table.specs.Seated.{TableId}
-use Rattle.core_steps.specs.Views.{Fixed}
+use Rattle.core_steps.specs.Nodes.{Fixed}
 use Rattle.ruled_words.specs.Sights.{SightView}
 use Rattle.ruled_words.specs.Passes.{PassView, IsPassOf, fixed_in, setting_of}
 use Rattle.ruled_words.specs.declared.setting.Setting.{Setting}

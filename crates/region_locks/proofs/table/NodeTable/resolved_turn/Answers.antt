@@ -1,5 +1,5 @@
 use Rattle.std.proofs.Common.{ap, ◌∙◌, refl, length}
-use Rattle.core_steps.specs.Views as views
+use Rattle.core_steps.specs.Points as core_points
 use Rattle.core_seats.specs.Seats.{view_of}
 use Rattle.core_seats.specs.Shown.{fixed_of}
 use Rattle.core_seats.proofs.Rooms.{before_is_record, loaded_is_record}
@@ -13,7 +13,7 @@ home-old-requires-after_bounds g c κs within =
     let same = ap (fixed_of g.A.Action.meaning) c.rules-rules.ensures in
     let ready = pass_is_ready F (fixed_in g.A.Action.meaning c.args.self.now) (length c.args.self.now.rooms) c.args.self.now.table _ c.args.pass.now same c.pass.view_is c.requires.own in
     let at = ap (λ (q : PassView). q.view.point) c.pass.view_is ∙ c.requires.read in
-    rw c.before-2.ensures (before_is_record F (view_of c.pass.inside.mirror) ready.sound views.Resolving c.is_lawful.ensures.validity at refl refl)
+    rw c.before-2.ensures (before_is_record F (view_of c.pass.inside.mirror) ready.sound core_points.Resolving c.is_lawful.ensures.validity at refl refl)
 
 pub home-requires-after_bounds : goal.home-requires-after_bounds
 home-requires-after_bounds g c κs within =

@@ -3,7 +3,7 @@ use Rattle.std.specs.Option.{option_map}
 use Rattle.entity_recs.specs.declared.cmd.Cmd.{Cmd}
 use Rattle.entity_recs.specs.declared.effect.Entry.{Entry}
 use Rattle.entity_recs.specs.Commands.{command_of}
-use Rattle.core_steps.specs.Views.{View}
+use Rattle.core_steps.specs.Reads.{View}
 use Rattle.core_seats.specs.Refusals.{AreRefusals, last_of}
 use Rattle.core_seats.specs.Seats.{view_of}
 use Rattle.ruled_words.specs.Passes.{PassView, TableView, IsPassOf, fixed_in}

@@ -1,5 +1,5 @@
 use Rattle.std.proofs.Common.{sym, ap, ◌∙◌, ℕ}
-use Rattle.core_steps.specs.Views.{stores_owed}
+use Rattle.core_steps.specs.Points.{stores_owed}
 use Rattle.ruled_words.specs.Passes.{PassView, fixed_in}
 use Rattle.region_locks.specs.NextCalls.{index_owed, word_owed}
 use Rattle.region_locks.proofs.Storing.{puts_next, store_there}

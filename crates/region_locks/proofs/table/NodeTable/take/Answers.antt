@@ -1,5 +1,5 @@
 use Rattle.std.proofs.Common.{sym, ap, subst, ◌∙◌, ◌<◌, ◌==◌, length, ℕ, if◌then◌else◌, All}
-use Rattle.core_steps.specs.Views.{Fixed, is_leaf, nodes_of}
+use Rattle.core_steps.specs.Nodes.{Fixed, is_leaf, nodes_of}
 use Rattle.core_seats.specs.Shown.{fixed_of}
 use Rattle.ruled_words.specs.Hands.{pass_view}
 use Rattle.ruled_words.specs.Passes.{PassView, fixed_in}

@@ -1,7 +1,7 @@
 use Rattle.std.proofs.Common.{sym, ap, ◌∙◌, ℕ, ◌+◌}
 use Rattle.core_steps.specs.declared.sizes.TheConstants.{FIRST_LIST_WORD}
 use Rattle.core_steps.specs.Cells.{without_bit}
-use Rattle.core_steps.specs.Views.{stores_owed}
+use Rattle.core_steps.specs.Points.{stores_owed}
 use Rattle.ruled_words.specs.Passes.{PassView, fixed_in}
 use Rattle.region_locks.specs.NextCalls.{bit_owed}
 use Rattle.region_locks.proofs.Storing.{unlinks_next, unlink_there}

@@ -1,5 +1,6 @@
 use Rattle.std.proofs.Common.{◌≡◌, refl, length, Some}
-use Rattle.core_steps.specs.Views.{View, Resolving, effect_loaded}
+use Rattle.core_steps.specs.Points.{Resolving}
+use Rattle.core_steps.specs.Reads.{View, effect_loaded}
 use Rattle.core_steps.specs.Steps.{first, view_after_claim}
 use Rattle.ruled_words.specs.Passes.{fixed_in}
 use Rattle.ruled_words.specs.Writing.{nodes_written}

@@ -1,5 +1,5 @@
 use Rattle.std.proofs.Common.{◌∙◌, ap}
-use Rattle.core_steps.specs.Views.{inner_nodes}
+use Rattle.core_steps.specs.Nodes.{inner_nodes}
 use Rattle.core_seats.specs.Shown.{fixed_of}
 use Rattle.ruled_words.specs.Passes.{fixed_in}
 use Rattle.ruled_words.proofs.shared_words.SharedWords.first_leaf.Goals as goal

@@ -1,6 +1,7 @@
 use Rattle.std.proofs.Common.{◌∙◌, ap, sym, subst, refl}
 use Rattle.entity_recs.specs.Records.{IsRecord}
-use Rattle.core_steps.specs.Views.{Fixed, Resolving, home}
+use Rattle.core_steps.specs.Nodes.{Fixed, home}
+use Rattle.core_steps.specs.Points.{Resolving}
 use Rattle.core_steps.specs.Stands.{IsLawful}
 use Rattle.core_seats.specs.Shown.{fixed_of}
 use Rattle.core_seats.proofs.Rooms.{before_is_record, loaded_is_record}

@@ -2,7 +2,7 @@ use Rattle.std.proofs.Common.{ℕ, ◌+◌, ◌≤◌, length, refl, List, ◌++
 use Rattle.arena_geo.specs.Bounds.{Bounds}
 use Rattle.entity_recs.specs.declared.rec.Rec.{Rec}
 use Rattle.world_tree.specs.Nears.{NearView}
-use Rattle.core_steps.specs.Views.{things_in}
+use Rattle.core_steps.specs.Reads.{things_in}
 use Rattle.core_steps.specs.Steps.{sensing}
 use Rattle.ruled_words.specs.Passes.{fixed_in}
 use Rattle.ruled_words.proofs.StateSteps.{put_last, AreSensed, sensed_none, sensed_at, sensed_room, sensed_one, sensed_until, sensed_view, sensed_near}

@@ -2,7 +2,7 @@ use Rattle.std.proofs.Common.{List, ◌++◌, sym, ap, ◌∙◌, subst, length}
 use Rattle.entity_recs.specs.declared.rec.Rec.{Rec}
 use Rattle.entity_recs.specs.Actions.{IsCall}
 use Rattle.entity_recs.specs.Commands.{command_of}
-use Rattle.core_steps.specs.Views.{things_in, region_in}
+use Rattle.core_steps.specs.Reads.{things_in, region_in}
 use Rattle.core_seats.specs.NearKept.{things_loaded}
 use Rattle.ruled_words.specs.Passes.{PassView, fixed_in}
 use Rattle.ruled_words.proofs.EffectRead.{slot_below, may_act, effect_same, keeping_own}

@@ -1,5 +1,6 @@
 use Rattle.std.proofs.Common.{◌≡◌, ℕ, sym, ap, ◌∙◌, subst, arith, refl, bit_or}
-use Rattle.core_steps.specs.Views.{inner_nodes, region_in}
+use Rattle.core_steps.specs.Nodes.{inner_nodes}
+use Rattle.core_steps.specs.Reads.{region_in}
 use Rattle.core_steps.specs.Steps.{visiting}
 use Rattle.ruled_words.specs.Passes.{PassView, fixed_in}
 use Rattle.ruled_words.proofs.BitWalks.{bits_first, bit_below}

@@ -1,6 +1,6 @@
 use Rattle.std.proofs.Common.{ℕ, ◌%◌, ◌^◌, sym, ap, ◌∙◌, subst, bit_or}
 use Rattle.areanode.specs.Trees.{visited_of}
-use Rattle.core_steps.specs.Views.{inner_nodes}
+use Rattle.core_steps.specs.Nodes.{inner_nodes}
 use Rattle.ruled_words.specs.Passes.{PassView, fixed_in}
 use Rattle.ruled_words.specs.Straight.{IsTriedOn}
 use Rattle.ruled_words.specs.Sights.{Tally}

@@ -1,6 +1,7 @@
 use Rattle.std.proofs.Common.{◌≡◌, ℕ, ◌<◌, List, ◌∷◌, length, sym, ap, ◌∙◌, subst, arith, length-set, slice_set}
-use Rattle.core_steps.specs.Views.{Point, PlayerRead, is_busy, stage_of}
-use Rattle.core_steps.specs.Views.{players_in}
+use Rattle.core_steps.specs.Points.{Point, is_busy, stage_of}
+use Rattle.core_steps.specs.Reads.{PlayerRead}
+use Rattle.core_steps.specs.Reads.{players_in}
 use Rattle.ruled_words.specs.Passes.{fixed_in, next_of_pass}
 use Rattle.ruled_words.specs.Visits.{under_until}
 use Rattle.ruled_words.proofs.BitWalks.{bits_in, bits_first, bits_none, players_are}

@@ -1,6 +1,6 @@
 use Rattle.std.proofs.Common.{ℕ, ◌<◌, sym, ap, ◌∙◌, subst, length}
 use Rattle.core_steps.specs.Cells.{with_bit}
-use Rattle.core_steps.specs.Views.{Link}
+use Rattle.core_steps.specs.Points.{Link}
 use Rattle.ruled_words.specs.Passes.{fixed_in}
 use Rattle.ruled_words.proofs.PlainHands.{comes_next, index_next}
 use Rattle.ruled_words.proofs.StoresMade.{store_is, store_left, store_after, slot_small}

@@ -1,6 +1,6 @@
 use Rattle.std.proofs.Common.{◌∙◌, arith}
 use Rattle.core_steps.specs.Cells.{Body}
-use Rattle.core_steps.specs.Views.{Put}
+use Rattle.core_steps.specs.Points.{Put}
 use Rattle.ruled_words.specs.Passes.{fixed_in}
 use Rattle.ruled_words.proofs.PlainHands.{comes_next, index_next}
 use Rattle.ruled_words.proofs.StoresMade.{store_is, store_left, store_after, store_blind}

@@ -1,6 +1,6 @@
 use Rattle.std.proofs.Common.{ℕ, ◌∷◌, ◌∙◌, length, slice_index_or, ap, sym, arith}
 use Rattle.core_steps.specs.Cells.{Body}
-use Rattle.core_steps.specs.Views.{Put}
+use Rattle.core_steps.specs.Points.{Put}
 use Rattle.core_steps.specs.Steps.{storing}
 use Rattle.ruled_words.specs.Passes.{fixed_in}
 use Rattle.ruled_words.specs.Writing.{nodes_held, owed_beyond}

@@ -1,5 +1,5 @@
 use Rattle.std.proofs.Common.{◌++◌, drop, length}
-use Rattle.core_steps.specs.Views.{body_stores}
+use Rattle.core_steps.specs.Points.{body_stores}
 use Rattle.ruled_words.specs.Passes.{fixed_in}
 use Rattle.ruled_words.specs.Writing.{owed_beyond}
 use Rattle.ruled_words.proofs.StoresMade.{HasStored}

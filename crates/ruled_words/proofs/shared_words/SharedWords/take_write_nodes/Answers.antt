@@ -1,6 +1,6 @@
 use Rattle.std.proofs.Common.{◌≡◌, ◌∙◌, ap, sym, length, take, drop, arith}
 use Rattle.core_steps.specs.Steps.{first}
-use Rattle.core_steps.specs.Views.{View}
+use Rattle.core_steps.specs.Reads.{View}
 use Rattle.ruled_words.specs.Passes.{fixed_in}
 use Rattle.ruled_words.proofs.Claims.{holds_still, first_node, no_nodes, claims_begun, claim_comes, claim_taken, claims_made, claims_none, claiming_view}
 use Rattle.ruled_words.proofs.shared_words.SharedWords.take_write_nodes.Goals as goal

@@ -1,5 +1,5 @@
 use Rattle.std.proofs.Common.{◌≡◌, List, sym, ap, ◌∙◌, subst, arith, bit_or}
-use Rattle.core_steps.specs.Views.{PlayerRead}
+use Rattle.core_steps.specs.Reads.{PlayerRead}
 use Rattle.ruled_words.specs.Passes.{PassView, fixed_in}
 use Rattle.ruled_words.specs.Straight.{HasKept, IsTriedOn}
 use Rattle.ruled_words.proofs.VisitedNodes.{enter_next, enter_word, inner_entered, entered_slot, entered_others, inner_leaving, inner_read, inner_others, inner_tally, inner_refusals}

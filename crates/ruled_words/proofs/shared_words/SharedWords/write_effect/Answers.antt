@@ -1,5 +1,5 @@
 use Rattle.std.proofs.Common.{◌≡◌, ◌≤◌, length}
-use Rattle.core_steps.specs.Views.{View, effect_loaded}
+use Rattle.core_steps.specs.Reads.{View, effect_loaded}
 use Rattle.ruled_words.specs.Passes.{fixed_in}
 use Rattle.ruled_words.specs.Writing.{nodes_written}
 use Rattle.ruled_words.proofs.Claims.{is_claimed, claimed_still, stores_come, slot_still, has_written, refusals_written}

@@ -1,5 +1,5 @@
 use Rattle.std.proofs.Common.{◌∙◌, ap}
-use Rattle.core_steps.specs.Views.{Fixed, inner_of_two}
+use Rattle.core_steps.specs.Nodes.{Fixed, inner_of_two}
 use Rattle.core_seats.specs.Shown.{fixed_of}
 use Rattle.ruled_words.specs.Passes.{fixed_in}
 use Rattle.ruled_words.proofs.shared_words.SharedWords.write_nodes.Goals as goal
