@@ -1,3 +1,4 @@
+ghost use Rattle.arena_geo.specs.declared.aabb.TheConstants.{FARTHEST};
 ghost use Rattle.std.specs.Prelude.{◌≡◌, ◌<◌, ◌≤◌, [], ◌++◌, length, IsSome};
 ghost use Rattle.std.specs.List.{cons_option};
 ghost use Rattle.arena_geo.specs.Vectors.{IsNear};
@@ -48,7 +49,7 @@ fn reach_with_room(me: &Rec, ms: u8, room: u32) -> Aabb
 fn landing_at(me: &Rec, dest: Vec3) -> Aabb
     requires player { me.now.kind ≡ Player }
     requires record { IsRecord me.now }
-    requires near { IsNear 1048576 dest }
+    requires near { IsNear FARTHEST dest }
     ensures { result ≡ regions.landing_at me.now dest }
 {
     let there = Rec {

@@ -9,6 +9,9 @@ use std::marker::Model;
 /// The greatest distance of a box's coordinate from 0, in sub-units.
 pub const LIMIT: u32 = 2_097_152;
 
+/// How far from 0 a coordinate of a map, and of a record's origin, is at most: 4,096 units, in sub-units.
+pub const FARTHEST: u32 = 1_048_576;
+
 /// An axis-aligned box between a low and a high corner, in sub-units. The low corner lies above the high one
 /// on no axis, and no coordinate is farther from 0 than [`LIMIT`].
 #[derive(Clone, Copy, Debug, PartialEq, Eq)]

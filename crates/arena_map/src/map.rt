@@ -1,3 +1,4 @@
+ghost use Rattle.arena_geo.specs.declared.aabb.TheConstants.{FARTHEST};
 ghost use Rattle.std.specs.Prelude.{◌≡◌, ◌↔◌, ◌+◌, ◌≤◌, ◌<◌, length, count_by, map, nat_eq, Option};
 ghost use Rattle.std.specs.Prelude.{Some, None, Err, true, All, IfOk, IfSome, OnOk, OnErr, is_some};
 ghost use Rattle.std.specs.List.{IsDistinct};
@@ -239,8 +240,8 @@ impl ArenaMap {
 
     /// Puts a block to the others.
     fn put_block(&mut self, lo: Vec3, hi: Vec3) -> Result<(), AllocError>
-        requires lo { IsNear 1048576 lo }
-        requires hi { IsNear 1048576 hi }
+        requires lo { IsNear FARTHEST lo }
+        requires hi { IsNear FARTHEST hi }
         requires kept { broken_rule self.old (Block lo hi) ≡ None }
         ensures map { OnOk result (self.new ≡ rules.with_block self.old (bounds lo hi)) }
         ensures unchanged { OnErr result (self.new ≡ self.old) }
@@ -251,7 +252,7 @@ impl ArenaMap {
 
     /// Puts a spawn to the others.
     fn put_spawn(&mut self, at: Vec3) -> Result<(), AllocError>
-        requires near { IsNear 1048576 at }
+        requires near { IsNear FARTHEST at }
         requires kept { broken_rule self.old (Spawn at) ≡ None }
         ensures map { OnOk result (self.new ≡ rules.with_spawn self.old at) }
         ensures unchanged { OnErr result (self.new ≡ self.old) }

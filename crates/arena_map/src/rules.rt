@@ -1,3 +1,4 @@
+ghost use Rattle.arena_geo.specs.declared.aabb.TheConstants.{FARTHEST};
 ghost use Rattle.std.specs.Prelude.{◌≡◌, ◌≤◌, ◌≤ℤ◌, true, pos, unsigned_abs};
 ghost use Rattle.arena_geo.specs.Vectors.{IsNear};
 ghost use Rattle.arena_geo.specs.Bounds.{bounds};
@@ -11,8 +12,8 @@ use entity_recs::{ITEM_MAXS, ITEM_MINS, player_box};
 
 /// Whether a side is at least [`LEAST_SIDE`] long.
 fn is_long(from: i32, to: i32) -> bool
-    requires from { unsigned_abs from ≤ 1048576 }
-    requires to { unsigned_abs to ≤ 1048576 }
+    requires from { unsigned_abs from ≤ FARTHEST }
+    requires to { unsigned_abs to ≤ FARTHEST }
     ensures { result ≡ places.is_long from to }
 {
     LEAST_SIDE <= to - from
@@ -20,8 +21,8 @@ fn is_long(from: i32, to: i32) -> bool
 
 /// Whether each side of the arena is at least [`LEAST_SIDE`] long.
 pub fn is_wide(lo: Vec3, hi: Vec3) -> bool
-    requires lo { IsNear 1048576 lo }
-    requires hi { IsNear 1048576 hi }
+    requires lo { IsNear FARTHEST lo }
+    requires hi { IsNear FARTHEST hi }
     ensures { result ≡ places.is_wide lo hi }
 {
     is_long(lo.x, hi.x) && is_long(lo.y, hi.y) && is_long(lo.z, hi.z)
@@ -36,8 +37,8 @@ pub fn is_thick(lo: Vec3, hi: Vec3) -> bool
 
 /// The box between corners of which the low one is below the high one on each axis.
 pub fn box_between(lo: Vec3, hi: Vec3) -> Aabb
-    requires lo { IsNear 1048576 lo }
-    requires hi { IsNear 1048576 hi }
+    requires lo { IsNear FARTHEST lo }
+    requires hi { IsNear FARTHEST hi }
     requires thick { places.is_thick lo hi ≡ true }
     ensures { result ≡ bounds lo hi }
 {
@@ -46,8 +47,8 @@ pub fn box_between(lo: Vec3, hi: Vec3) -> Aabb
 
 /// Whether the box between the corners has an inside and is inside the arena.
 fn is_box_inside(arena: &Aabb, lo: Vec3, hi: Vec3) -> bool
-    requires lo { IsNear 1048576 lo }
-    requires hi { IsNear 1048576 hi }
+    requires lo { IsNear FARTHEST lo }
+    requires hi { IsNear FARTHEST hi }
     ensures { result ≡ places.is_box_inside arena.now lo hi }
 {
     is_thick(lo, hi) && arena.contains(&box_between(lo, hi))
@@ -55,7 +56,7 @@ fn is_box_inside(arena: &Aabb, lo: Vec3, hi: Vec3) -> bool
 
 /// Whether a player with its origin there is inside the arena.
 fn is_player_inside(arena: &Aabb, at: Vec3) -> bool
-    requires { IsNear 1048576 at }
+    requires { IsNear FARTHEST at }
     ensures { result ≡ places.is_player_inside arena.now at }
 {
     arena.contains(&player_box(at))
@@ -63,7 +64,7 @@ fn is_player_inside(arena: &Aabb, at: Vec3) -> bool
 
 /// The body of an item with its origin there.
 fn item_box(at: Vec3) -> Aabb
-    requires { IsNear 1048576 at }
+    requires { IsNear FARTHEST at }
     ensures { result ≡ places.item_body at }
 {
     Aabb::from_corners(at + ITEM_MINS, at + ITEM_MAXS)
@@ -82,10 +83,10 @@ fn upwards(rise: i32) -> Vec3
 
 /// A lift's box at its highest place.
 fn box_at_the_top(lo: Vec3, hi: Vec3, rise: i32) -> Aabb
-    requires lo { IsNear 1048576 lo }
-    requires hi { IsNear 1048576 hi }
+    requires lo { IsNear FARTHEST lo }
+    requires hi { IsNear FARTHEST hi }
     requires thick { places.is_thick lo hi ≡ true }
-    requires rise { unsigned_abs rise ≤ 1048576 }
+    requires rise { unsigned_abs rise ≤ FARTHEST }
     ensures { result ≡ places.box_at_the_top lo hi rise }
 {
     box_between(lo, hi).shifted(upwards(rise))
@@ -93,11 +94,11 @@ fn box_at_the_top(lo: Vec3, hi: Vec3, rise: i32) -> Aabb
 
 /// A lift's shaft: its box from the lowest place to the highest.
 pub fn shaft(lo: Vec3, hi: Vec3, rise: i32) -> Aabb
-    requires lo { IsNear 1048576 lo }
-    requires hi { IsNear 1048576 hi }
+    requires lo { IsNear FARTHEST lo }
+    requires hi { IsNear FARTHEST hi }
     requires thick { places.is_thick lo hi ≡ true }
     requires least { pos 1 ≤ℤ rise }
-    requires most { rise ≤ℤ pos 1048576 }
+    requires most { rise ≤ℤ pos FARTHEST }
     ensures { result ≡ places.shaft lo hi rise }
 {
     Aabb::from_corners(lo, hi + upwards(rise))

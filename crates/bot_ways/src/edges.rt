@@ -1,3 +1,4 @@
+ghost use Rattle.arena_geo.specs.declared.aabb.TheConstants.{FARTHEST};
 ghost use Rattle.std.specs.Prelude.{◌≡◌, ◌<◌, ◌≤◌, ◌&&◌, ◌-ℤ◌, true, length, unsigned_abs, slice_get, Some, IfSome};
 ghost use Rattle.arena_geo.specs.Vectors.{IsNear};
 ghost use Rattle.bot_ways.specs.Edges as edges;
@@ -9,8 +10,8 @@ use entity_recs::player_box;
 
 /// How far two coordinates are from each other.
 fn apart(from: i32, to: i32) -> u32
-    requires from { unsigned_abs from ≤ 1048576 }
-    requires to { unsigned_abs to ≤ 1048576 }
+    requires from { unsigned_abs from ≤ FARTHEST }
+    requires to { unsigned_abs to ≤ FARTHEST }
     ensures value { result ≡ unsigned_abs (to -ℤ from) }
     ensures few { result ≤ 2097152 }
 {
@@ -19,8 +20,8 @@ fn apart(from: i32, to: i32) -> u32
 
 /// How far two points are from each other on x or y, whichever is farther.
 pub fn distance(from: Vec3, to: Vec3) -> u32
-    requires from { IsNear 1048576 from }
-    requires to { IsNear 1048576 to }
+    requires from { IsNear FARTHEST from }
+    requires to { IsNear FARTHEST to }
     ensures value { result ≡ edges.distance from to }
     ensures few { result ≤ 2097152 }
 {
@@ -29,8 +30,8 @@ pub fn distance(from: Vec3, to: Vec3) -> u32
 
 /// Whether no solid overlaps a player's body at the first point, or at a step of its trace to the second.
 fn is_free(solids: &[Aabb], from: Vec3, to: Vec3) -> bool
-    requires from { IsNear 1048576 from }
-    requires to { IsNear 1048576 to }
+    requires from { IsNear FARTHEST from }
+    requires to { IsNear FARTHEST to }
     requires near { edges.are_near from to ≡ true }
     requires few { length solids.now ≤ 1030 }
     ensures { result ≡ edges.is_free solids.now from to }
@@ -41,8 +42,8 @@ fn is_free(solids: &[Aabb], from: Vec3, to: Vec3) -> bool
 
 /// Whether an edge leads from the first point to the second.
 fn has_edge(solids: &[Aabb], from: Vec3, to: Vec3) -> bool
-    requires from { IsNear 1048576 from }
-    requires to { IsNear 1048576 to }
+    requires from { IsNear FARTHEST from }
+    requires to { IsNear FARTHEST to }
     requires few { length solids.now ≤ 1030 }
     ensures { result ≡ edges.are_near from to && edges.is_free solids.now from to }
 {
@@ -54,7 +55,7 @@ fn has_edge(solids: &[Aabb], from: Vec3, to: Vec3) -> bool
 pub fn waypoint_point(map: &ArenaMap, waypoint: usize) -> Vec3
     requires { waypoint < length map.now.spawns }
     ensures value { slice_get map.now.spawns waypoint ≡ Some result }
-    ensures near { IsNear 1048576 result }
+    ensures near { IsNear FARTHEST result }
 {
     map.spawns()[waypoint]
 }

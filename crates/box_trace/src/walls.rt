@@ -1,3 +1,4 @@
+ghost use Rattle.arena_geo.specs.declared.aabb.TheConstants.{FARTHEST};
 ghost use Rattle.std.specs.Prelude.{◌≡◌};
 ghost use Rattle.arena_geo.specs.Vectors.{IsNear};
 ghost use Rattle.arena_geo.specs.Bounds.{bounds, IsBox, IsOrdered};
@@ -55,8 +56,8 @@ fn wall(lo: Vec3, hi: Vec3) -> Aabb
 
 /// The walls outside an arena with these corners.
 fn walls_outside(lo: Vec3, hi: Vec3) -> [Aabb; 6]
-    requires lo { IsNear 1048576 lo }
-    requires hi { IsNear 1048576 hi }
+    requires lo { IsNear FARTHEST lo }
+    requires hi { IsNear FARTHEST hi }
     requires ordered { IsOrdered (bounds lo hi) }
     ensures { result ≡ walls_of (bounds lo hi) }
 {
@@ -81,8 +82,8 @@ fn walls_outside(lo: Vec3, hi: Vec3) -> [Aabb; 6]
 /// sub-units thick, and on the two other axes reaches as far beyond the arena. The arena's corners are at most
 /// 1,048,576 sub-units from 0.
 pub fn arena_walls(arena: &Aabb) -> [Aabb; 6]
-    requires lo { IsNear 1048576 arena.now.lo }
-    requires hi { IsNear 1048576 arena.now.hi }
+    requires lo { IsNear FARTHEST arena.now.lo }
+    requires hi { IsNear FARTHEST arena.now.hi }
     ensures { result ≡ walls_of arena.now }
 {
     walls_outside(arena.lo(), arena.hi())

@@ -1,3 +1,4 @@
+ghost use Rattle.arena_geo.specs.declared.aabb.TheConstants.{FARTHEST};
 ghost use Rattle.std.specs.Prelude.{◌≡◌, ◌<◌, Some, slice_get, pos, ◌+ℤ◌};
 ghost use Rattle.arena_geo.specs.Vectors.{vector, IsNear};
 ghost use Rattle.arena_map.specs.declared.map_line.MapLine.TheVariants.{Arena};
@@ -105,7 +106,7 @@ fn block_corner(j: u8) -> Vec3
 
 /// The high corner of the block with this low one: 32 units along x and y, 100 above the floor.
 fn top_corner(lo: Vec3) -> Vec3
-    requires { IsNear 1048576 lo }
+    requires { IsNear FARTHEST lo }
     ensures { result ≡ vector (lo.x +ℤ pos 8192) (lo.y +ℤ pos 8192) (pos 25600) }
 {
     point(lo.x + 8_192, lo.y + 8_192, 25_600)

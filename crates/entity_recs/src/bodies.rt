@@ -1,3 +1,4 @@
+ghost use Rattle.arena_geo.specs.declared.aabb.TheConstants.{FARTHEST};
 ghost use Rattle.std.specs.Prelude.{◌≡◌, pos};
 ghost use Rattle.arena_geo.specs.Vectors.{IsNear};
 ghost use Rattle.entity_recs.specs.Records.{IsRecord};
@@ -60,7 +61,7 @@ pub fn growth(kind: Kind) -> Vec3
 
 /// The body of a player with this `origin`, of which each coordinate is at most 1,048,576 from 0.
 pub fn player_box(origin: Vec3) -> Aabb
-    requires { IsNear 1048576 origin }
+    requires { IsNear FARTHEST origin }
     ensures { result ≡ player_body origin }
 {
     Aabb::from_corners(origin + PLAYER_MINS, origin + PLAYER_MAXS)

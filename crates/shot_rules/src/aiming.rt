@@ -1,3 +1,4 @@
+ghost use Rattle.arena_geo.specs.declared.aabb.TheConstants.{FARTHEST};
 ghost use Rattle.std.specs.Prelude.{◌≡◌, ◌<◌};
 ghost use Rattle.std.specs.Option.{ForSome};
 ghost use Rattle.arena_geo.specs.Vectors.{IsNear};
@@ -19,7 +20,7 @@ pub fn is_set(bits: u8, bit: u8) -> bool
 
 /// The box of a shot from this origin.
 pub fn shot_box(origin: Vec3) -> Aabb
-    requires { IsNear 1048576 origin }
+    requires { IsNear FARTHEST origin }
     ensures { result ≡ targets.shot_box origin }
 {
     let half = Vec3 {
@@ -59,7 +60,7 @@ pub fn shot_way(cmd: &Cmd) -> Option<Vec3>
 /// Where the shot of a command from this origin may go: its box at the start of its way, at the end, and all between.
 /// `None` exactly where none is asked for: the button isn't pressed, or there is no wish.
 pub fn shot_range(origin: Vec3, cmd: &Cmd) -> Option<Aabb>
-    requires { IsNear 1048576 origin }
+    requires { IsNear FARTHEST origin }
     ensures { result ≡ targets.range_if_any origin cmd.now.buttons cmd.now.wish_x cmd.now.wish_y }
 {
     if !is_set(cmd.buttons, FIRE) {

@@ -1,3 +1,4 @@
+ghost use Rattle.arena_geo.specs.declared.aabb.TheConstants.{FARTHEST};
 ghost use Rattle.std.specs.Prelude.{◌≡◌, ◌+◌, ◌*◌, ◌≤◌, ◌<◌, ◌++◌, [], length, is_some, IsSome, IfSome};
 ghost use Rattle.arena_geo.specs.Vectors.{IsNear};
 ghost use Rattle.world_tree.specs.Live.{live_in};
@@ -23,7 +24,7 @@ const SIGHT: Vec3 = Vec3 {
 
 /// The box that a player at this origin sees.
 fn view(origin: Vec3) -> Aabb
-    requires { IsNear 1048576 origin }
+    requires { IsNear FARTHEST origin }
     ensures { result ≡ spec.view_of origin }
 {
     Aabb::from_corners(origin - SIGHT, origin + SIGHT)

@@ -1,3 +1,4 @@
+ghost use Rattle.arena_geo.specs.declared.aabb.TheConstants.{FARTHEST};
 ghost use Rattle.std.specs.Prelude.{◌≡◌, ◌&&◌, ℕ, List, [], All, Some, length, false, not, true};
 ghost use Rattle.std.specs.List.{list_any};
 ghost use Rattle.arena_geo.specs.Vectors.{IsNear};
@@ -78,7 +79,7 @@ fn touch_goal(me: &mut Rec)
 fn leap(me: &mut Rec, dest: Vec3)
     requires player { me.old.kind ≡ Player }
     requires record { IsRecord me.old }
-    requires near { IsNear 1048576 dest }
+    requires near { IsNear FARTHEST dest }
     ensures player { me.new ≡ touching.leapt me.old dest }
     ensures record { IsRecord me.new }
 {
@@ -89,7 +90,7 @@ fn leap(me: &mut Rec, dest: Vec3)
 
 /// Whether a player's body at this destination overlaps no wall, no block, and no body of another solid.
 fn is_free(map: &ArenaMap, near: &[Rec], dest: Vec3) -> bool
-    requires near { IsNear 1048576 dest }
+    requires near { IsNear FARTHEST dest }
     requires records { All IsRecord near.now }
     ensures { result ≡ not (is_blocked (player_body dest) (solids_among map.now near.now)) }
 {
