@@ -26,7 +26,7 @@ use arena_geo::Vec3;
 use arena_map::ArenaMap;
 use arrayvec::ArrayVec;
 use entity_recs::{Cmd, Kind, PLAYER_MAXS, PLAYER_MINS, Rec};
-use packet_read::{Arrival, MOST_BLOCKS, MovePacket, Packet, MovesPacket, read_packet};
+use packet_read::{Arrival, MOST_BLOCKS, MovePacket, MovesPacket, Packet, read_packet};
 use world_tree::World;
 
 /// A player that has just joined.

@@ -1,7 +1,7 @@
 ghost use Rattle.std.specs.Prelude.{◌≡◌};
 ghost use Rattle.areanode.specs.Trees.{IsTreeDepth};
 
-use crate::lists::{bits_below, first_leaf, inner_among, nodes_then, leaf_nodes, leaf_word};
+use crate::lists::{bits_below, first_leaf, inner_among, leaf_nodes, leaf_word, nodes_then};
 use crate::near::put_near;
 use crate::near_kept::{count_players, player_bits};
 use crate::point::NodeQueue;

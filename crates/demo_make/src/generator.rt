@@ -7,7 +7,7 @@ use crate::generated_event::GeneratedEvent;
 use crate::last_words::{LastWords, next_word_if};
 use crate::moves::{arrives, drawn_move, last_commands};
 use crate::sending::Sending;
-use packet_read::{Packet, MovesPacket, write_packet};
+use packet_read::{MovesPacket, Packet, write_packet};
 use rand_xoshiro::SplitMix64;
 use rand_xoshiro::rand_core::SeedableRng;
 use rand_xoshiro::rand_core::utils::NextWord;

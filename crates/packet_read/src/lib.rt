@@ -5,12 +5,12 @@ mod arrival;
 mod block_list;
 mod laws;
 mod move_packet;
+mod moves_packet;
 mod packet;
 mod packet_bytes;
 mod packet_fault;
 mod reading;
 mod reading_moves;
-mod moves_packet;
 mod wire;
 mod writing;
 
@@ -21,9 +21,9 @@ pub use laws::{
     read_where_spelled,
 };
 pub use move_packet::MovePacket;
+pub use moves_packet::MovesPacket;
 pub use packet::Packet;
 pub use packet_bytes::{MOST_PACKET_BYTES, PacketBytes};
 pub use packet_fault::PacketFault;
 pub use reading::read_packet;
-pub use moves_packet::MovesPacket;
 pub use writing::write_packet;

@@ -6,9 +6,9 @@ ghost use Rattle.packet_read.specs.Faults.{blocks_from, block_fault_of, is_wrong
 ghost use Rattle.packet_read.specs.Reading.{reading};
 
 use crate::block_list::{BlockList, CmdBlock, MOST_BLOCKS};
+use crate::moves_packet::MovesPacket;
 use crate::packet::Packet;
 use crate::packet_fault::PacketFault;
-use crate::moves_packet::MovesPacket;
 use crate::wire::{BLOCK_BYTES, KNOWN_BUTTONS_2, MOST_MS, MOVE};
 
 /// Reads what follows version 2.

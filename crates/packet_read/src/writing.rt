@@ -6,9 +6,9 @@ ghost use Rattle.packet_read.specs.Reading.{reading};
 
 use crate::block_list::CmdBlock;
 use crate::move_packet::MovePacket;
+use crate::moves_packet::MovesPacket;
 use crate::packet::Packet;
 use crate::packet_bytes::{MOST_PACKET_BYTES, PacketBytes};
-use crate::moves_packet::MovesPacket;
 use crate::wire::{JOIN, LEAVE, MOVE, VERSION, VERSION_2};
 
 // It alone has the limits of a packet, so tests can build one that is refused.

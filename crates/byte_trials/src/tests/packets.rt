@@ -1,5 +1,5 @@
 use packet_read::{
-    BlockList, CmdBlock, MovePacket, Packet, PacketBytes, PacketFault, MovesPacket, read_packet,
+    BlockList, CmdBlock, MovePacket, MovesPacket, Packet, PacketBytes, PacketFault, read_packet,
     write_packet,
 };
 

@@ -98,8 +98,14 @@ fn at(x: i32, y: i32, z: i32) -> Vec3
 fn a_box_between_known_corners_reaches_the_limit(rt: HostRuntime) -> Result<(), Fail> {
     let lo = at(-2_097_152, -2_097_152, -2_097_152);
     let hi = at(2_097_152, 2_097_152, 2_097_152);
-    assert_eq!(rt; Some(Aabb::from_corners(lo, hi)), cube(-2_097_152, 2_097_152));
-    assert_eq!(rt; Some(Aabb::from_corners(hi, hi)), cube(2_097_152, 2_097_152));
+    assert_eq!(rt;
+        Some(Aabb::from_corners(lo, hi)),
+        cube(-2_097_152, 2_097_152)
+    );
+    assert_eq!(rt;
+        Some(Aabb::from_corners(hi, hi)),
+        cube(2_097_152, 2_097_152)
+    );
     Ok(())
 }
 
