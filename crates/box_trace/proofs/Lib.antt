@@ -8,6 +8,7 @@ pub mod Firsts
 pub mod FirstMeetings
 pub mod Traces
 pub mod WallBoxes
+pub mod HavingWalls
 pub mod Stops
 pub mod HitAxes
 pub mod Insides

@@ -1,7 +1,5 @@
 -- The walls of an arena: the solids that bound it.
-use Rattle.std.specs.Prelude.{◌≡◌, true, List, [], ◌∷◌, ◌++◌, pos}
-use Rattle.std.proofs.lemmas.List.Folds.{list_any-append}
-use Rattle.std.proofs.lemmas.Bool.{or_left}
+use Rattle.std.specs.Prelude.{◌≡◌, true, List, [], ◌∷◌, pos}
 use Rattle.arena_geo.specs.declared.vec3.Vec3.{Vec3}
 use Rattle.arena_geo.specs.Vectors.{vector, plus, minus}
 use Rattle.arena_geo.specs.Bounds.{Bounds, bounds}
@@ -42,20 +40,3 @@ walls_of b =
 -- the solids block what the walls of the arena block
 pub record HaveWalls (arena : Bounds) (solids : List Bounds) : Type 0 where
   pub blocked : (b : Bounds) → is_blocked b (walls_of arena) ≡ true → is_blocked b solids ≡ true
-
--- solids with more after them block what they block
-blocked_by_more : (b : Bounds) (solids more : List Bounds)
-    → is_blocked b solids ≡ true → is_blocked b (solids ++ more) ≡ true
-blocked_by_more b solids more h =
-    rw list_any-append (or_left (is_blocked b solids) (is_blocked b more) h)
-
--- solids that begin with the walls have them
-pub have_walls_first : (arena : Bounds) (more : List Bounds) → HaveWalls arena (walls_of arena ++ more)
-have_walls_first arena more =
-    record { blocked = λ b h. blocked_by_more b (walls_of arena) more h }
-
--- solids that have the walls have them with more after them
-pub have_walls_more : (arena : Bounds) (solids more : List Bounds)
-    → HaveWalls arena solids → HaveWalls arena (solids ++ more)
-have_walls_more arena solids more have =
-    record { blocked = λ b h. blocked_by_more b solids more (have.blocked b h) }

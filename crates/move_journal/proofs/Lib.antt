@@ -4,6 +4,7 @@ pub mod Orders
 pub mod SortedRanges
 pub mod LogEntries
 pub mod Uniques
+pub mod NumberedLists
 pub mod ValidWorlds
 pub mod WholeHistories
 pub mod JournalLaws

@@ -12,7 +12,8 @@ use Rattle.entity_recs.specs.Histories.{Action, outcome, with_new_state, with_ef
 use Rattle.entity_recs.specs.declared.effect.NewState.{NewState}
 use Rattle.entity_recs.specs.declared.effect.Effect.{Effect}
 use Rattle.move_journal.specs.Validity.{HasRecordsThatPass, IsKept, KeepsRecords, KeepsRecordsThatPass}
-use Rattle.move_journal.specs.Lists.{AreNumbered, apart_where_numbered, found_at_ids, first_given, others_given}
+use Rattle.move_journal.specs.Lists.{AreNumbered}
+use Rattle.move_journal.proofs.NumberedLists.{apart_where_numbered, found_at_ids, first_given, others_given}
 
 -- ---- after a move
 

@@ -6,7 +6,8 @@ use Rattle.arena_geo.specs.Vectors.{IsNear}
 use Rattle.arena_geo.specs.Bounds.{Bounds}
 use Rattle.arena_geo.specs.Boxes.{contains_on, contains}
 use Rattle.arena_geo.proofs.Containment.{three_pass}
-use Rattle.box_trace.specs.Walls.{HaveWalls, have_walls_first, have_walls_more}
+use Rattle.box_trace.specs.Walls.{HaveWalls}
+use Rattle.box_trace.proofs.HavingWalls.{have_walls_first, have_walls_more}
 use Rattle.entity_recs.specs.declared.kind.Kind.{Kind}
 use Rattle.entity_recs.specs.declared.kind.Kind.TheVariants.{Player}
 use Rattle.entity_recs.specs.declared.bodies.TheConstants.{PLAYER_MINS}

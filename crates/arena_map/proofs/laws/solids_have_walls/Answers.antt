@@ -1,4 +1,4 @@
-use Rattle.box_trace.specs.Walls.{have_walls_first}
+use Rattle.box_trace.proofs.HavingWalls.{have_walls_first}
 use Rattle.arena_map.proofs.laws.solids_have_walls.Goals as goal
 
 pub returns : goal.returns
