@@ -16,14 +16,15 @@ use Rattle.edge_io.specs.declared.sink.Sink as sinks
 use Rattle.arena_engine.specs.declared.command.Command.{Command}
 use Rattle.arena_engine.specs.declared.command.Command.TheVariants.{Play, Feed, Make, Resend, Match, Bots, Check}
 use Rattle.arena_engine.specs.Making.{IsMade, IsResent, IsMatched}
-use Rattle.arena_engine.specs.FedGames.{no_last}
+use Rattle.arena_engine.specs.declared.feeding.Feeding.TheVariants.{Recorded, Threaded}
+use Rattle.arena_engine.specs.Feedings.{no_last}
 use Rattle.arena_engine.specs.Texts.{Texts, play_texts, feed_texts}
 use Rattle.arena_engine.specs.Played.{IsPlayedWith}
 use Rattle.arena_engine.specs.Planned.{IsPlanned}
 use Rattle.arena_engine.specs.Checked.{IsChecked}
 use Rattle.arena_engine.specs.Served.{Unread, IsServed}
-use Rattle.arena_engine.proofs.Exits.{HoldAtFirst, memory_at_first, play_at_first}
-use Rattle.arena_engine.proofs.FedExits.{feed_at_first}
+use Rattle.arena_engine.proofs.FedTexts.{HoldAtFirst, hold_at_first}
+use Rattle.arena_engine.proofs.Exits.{memory_at_first}
 
 pub taken_in_nothing : (a before after : Option (List ℕ)) → after ≡ before → IfSome a (λ bytes. Writes before after (λ text. HasOneTakerEach (map_of bytes) (dids text)))
 taken_in_nothing None before after same = tt
@@ -52,8 +53,8 @@ module _ {S K : Type 0} (s : sources.Ghosts S) (k : sinks.Ghosts K) (source sour
       let is : IsPlayedWith s k texts source source' sink sink' r = search (rules, memory, once, five, all) in is
 
   pub not_served : (command : Command) → IsServed s k source source' sink sink' r command
-  not_served (Play n) = not_played (play_texts n) (play_at_first n)
-  not_served (Feed n) = not_played (feed_texts n) (feed_at_first n)
+  not_served (Play n) = not_played (play_texts n) (hold_at_first Recorded n)
+  not_served (Feed n) = not_played (feed_texts n) (hold_at_first Threaded n)
   not_served (Make seed players frames) =
       let is : Unread source source' (IsMade k seed players frames sink sink' r) = search (rules, unread, same, five, place, last, all) in is
   not_served (Resend seed players frames) =

@@ -1,5 +1,5 @@
 -- A frame that an event closed: what it gave out prints its lines.
-use Rattle.std.proofs.Common.{◌≡◌, ℕ, Bool, List, [], ◌∷◌, ◌++◌, Option, Some, None, refl, ap, ◌∙◌, subst, append-nil}
+use Rattle.std.proofs.Common.{◌≡◌, ℕ, Bool, List, [], ◌∷◌, ◌++◌, Option, Some, None, option_map, refl, sym, ap, ◌∙◌, subst, append-nil}
 use Rattle.entity_recs.specs.declared.effect.Entry.{Entry}
 use Rattle.packet_read.specs.declared.arrival.Arrival.{Arrival}
 use Rattle.plain_server.specs.Frames.{received_in}
@@ -10,36 +10,88 @@ use Rattle.demo_lines.specs.declared.event.Event.TheVariants.{Frame, From, End}
 use Rattle.out_text.specs.OutLines.{OutLine, EndLine}
 use Rattle.out_text.specs.FrameLines.{given_lines, lines_with}
 use Rattle.out_text.proofs.Players.{given-is}
-use Rattle.playback.specs.Playbacks.{Course, PlaybackView, IsGiven, IsGivenIf, Closes, GoesOn, shown_by}
-use Rattle.arena_engine.specs.Games.{GameView, Plays, closed_lines, closing_lines, event_lines, due_lines, is_end, newest}
+use Rattle.playback.specs.Playbacks.{Course, PlaybackView, IsGiven, IsGivenIf, ArePacketsIf, Closes, GoesOn, shown_by}
+use Rattle.arena_engine.specs.declared.feeding.Feeding.{Feeding}
+use Rattle.arena_engine.specs.Feedings.{Last, arranged, with_packets}
+use Rattle.arena_engine.specs.Games.{GameView, Plays, closing_with, ClosesFed, PutsOpenInOrder, PutsInOrderFor, closed_lines, closing_lines, event_lines, due_lines, is_end, newest, newest_journal, newest_order}
 
--- the lines that the code prints are those of the frame
-pub lines-are : (t : ServerView) (arrivals : List Arrival) (journal : List Entry) (out : FrameOut) → IsGiven t arrivals journal out
-    → closed_lines (Some journal) out ≡ lines_with t.map t.frames (received_in t.map t.frames t.state arrivals) journal
+-- what a frame gave out are the parts of its lines
+lines-are : (t : ServerView) (arrivals : List Arrival) (journal : List Entry) (out : FrameOut) → IsGiven t arrivals journal out
+    → given_lines out.frame out.received.lists journal out.slots out.replies ≡ lines_with t.map t.frames (received_in t.map t.frames t.state arrivals) journal
 lines-are t arrivals journal out given =
     (λ i. given_lines (given.frame_is i) (given.lists_are i) journal (given.slots_are i) (given.replies_are i))
     ∙ given-is t.frames (received_in t.map t.frames t.state arrivals).lists journal (shown_by t arrivals journal)
 
-closed-are : (workers : ℕ) (old new : ServerView) (opened : Option (List Arrival)) (closed : Option (List Entry)) (out : FrameOut) → Closes workers old new opened closed → IsGivenIf old opened closed out
-    → closed_lines closed out ≡ closing_lines old opened closed
-closed-are workers old new None None out closes given = refl
-closed-are workers old new None (Some journal) out never given = absurd never
-closed-are workers old new (Some arrivals) None out never given = absurd never
-closed-are workers old new (Some arrivals) (Some journal) out closes given = lines-are old arrivals journal out given
+-- the frame that was open, if one was, was put in order and run, and what is printed are its lines
+record ClosesInOrder (feeding : Feeding) (workers : ℕ) (server server' : ServerView) (opened : Option (List Arrival)) (packets : List Arrival) (order : Option (List ℕ)) (journal : Option (List Entry)) (out : FrameOut) : Type 0 where
+  closes : ClosesFed feeding workers server server' opened (closing_with order journal)
+  lines : closed_lines order journal packets out ≡ closing_lines server opened (closing_with order journal)
 
--- what is printed are the lines that the event closes
-due-are : (workers : ℕ) (old : Course) (new : PlaybackView) (e : Event) (closed : Option (List Entry)) → GoesOn workers old new.course e closed → IsGivenIf old.server old.opened closed new.out
-    → due_lines (is_end e) closed new ≡ event_lines old new.course e closed
-due-are workers old new Frame closed goes given = append-nil (closed_lines closed new.out) ∙ closed-are workers old.server new.course.server old.opened closed new.out goes.closes given
-due-are workers old new (From a) closed goes given = ap (λ (j : Option (List Entry)). closed_lines j new.out ++ []) goes.none_closed
-due-are workers old new End closed goes given =
-    ap (λ (ls : List OutLine). ls ++ EndLine new.course.server.frames ∷ []) (closed-are workers old.server new.course.server old.opened closed new.out goes.closes given)
+closed_in_order : (feeding : Feeding) (workers : ℕ) (opened : Option (List Arrival)) (old new : Course) (packets : List Arrival) (order : Option (List ℕ)) (server' : ServerView) (journal : Option (List Entry)) (out : FrameOut)
+    → PutsOpenInOrder feeding opened old new order → old.opened ≡ opened → Closes workers new.server server' new.opened journal → IsGivenIf new.server new.opened journal out → ArePacketsIf new.opened journal packets
+    → ClosesInOrder feeding workers old.server server' opened packets order journal out
+closed_in_order feeding workers None old new packets order server' journal out same opened closes given kept =
+    let P : Course → Type 0 = λ x. Closes workers x.server server' x.opened journal in
+    let Q : Option (List Arrival) → Type 0 = λ o. Closes workers old.server server' o journal in
+    go journal (subst Q opened (subst P same closes))
+  where
+    go : (j : Option (List Entry)) → Closes workers old.server server' None j → ClosesInOrder feeding workers old.server server' None packets order j out
+    go None is = record { closes = is; lines = refl }
+    go (Some j) never = absurd never
+closed_in_order feeding workers (Some arrivals) old new packets order server' journal out puts opened closes given kept =
+    let Q : Course → Type 0 = λ x. Closes workers x.server server' x.opened journal → IsGivenIf x.server x.opened journal out → ArePacketsIf x.opened journal packets
+    → ClosesInOrder feeding workers old.server server' (Some arrivals) packets order journal out in
+    subst Q (sym puts.course) (go journal) closes given kept
+  where
+    go : (j : Option (List Entry)) → Closes workers old.server server' (Some (arranged order arrivals)) j → IsGivenIf old.server (Some (arranged order arrivals)) j out → ArePacketsIf (Some (arranged order arrivals)) j packets
+        → ClosesInOrder feeding workers old.server server' (Some arrivals) packets order j out
+    go None never given kept = absurd never
+    go (Some j) runs given kept = record {
+      closes = record { order = puts.order_is; runs = runs };
+      lines = ap (λ (ps : List Arrival). closed_lines order (Some j) ps out) kept ∙ ap (with_packets order (arranged order arrivals)) (lines-are old.server (arranged order arrivals) j out given);
+    }
+
+-- the last frame then, from its parts
+last-is : (order : Option (List ℕ)) (journal : Option (List Entry)) (before last : Last) → last.order ≡ newest_order journal order before.order → last.journal ≡ newest_journal journal before.journal
+    → last ≡ newest (closing_with order journal) before
+last-is order None before last order_is journal_is = λ i. record { order = order_is i; journal = journal_is i }
+last-is order (Some j) before last order_is journal_is = λ i. record { order = order_is i; journal = journal_is i }
 
 -- the game went on, and P of the lines that were printed
-pub plays : (workers : ℕ) (old : GameView) (course : Course) (before : Option (List Entry)) (new : PlaybackView) (last : Option (List Entry)) (e : Event) (closed : Option (List Entry)) (ends : Bool) (P : List OutLine → Type 0)
-    → record { course = course; last = before } ≡ old → ends ≡ is_end e → GoesOn workers course new.course e closed → IsGivenIf course.server course.opened closed new.out
-    → last ≡ newest closed before → P (due_lines ends closed new) → Plays workers old (record { course = new.course; last = last }) e P
-plays workers old course before new last e closed ends P view ends_is goes given last_is holds =
-    let same : due_lines ends closed new ≡ event_lines course new.course e closed = ap (λ (b : Bool). due_lines b closed new) ends_is ∙ due-are workers course new e closed goes given in
-    subst (λ (g : GameView). Plays workers g (record { course = new.course; last = last }) e P) view
-    (record { closed = closed; advances = record { goes = goes; last_is = last_is }; lines = subst P same holds })
+pub plays : (feeding : Feeding) (workers : ℕ) (old : GameView) (course : Course) (new : PlaybackView) (last : Last) (e : Event) (order : Option (List ℕ)) (journal : Option (List Entry)) (ends : Bool) (P : List OutLine → Type 0)
+    → PutsInOrderFor feeding e old.course course order → GoesOn workers course new.course e journal → IsGivenIf course.server course.opened journal new.out → ArePacketsIf course.opened journal new.closed
+    → last.order ≡ newest_order journal order old.last.order → last.journal ≡ newest_journal journal old.last.journal → ends ≡ is_end e → P (due_lines ends order journal new)
+    → Plays feeding workers old (record { course = new.course; last = last }) e P
+plays feeding workers old course new last Frame order journal ends P puts goes given kept order_is journal_is ends_is holds =
+    let c = closed_in_order feeding workers old.course.opened old.course course new.closed order new.course.server journal new.out puts refl goes.closes given kept in
+    let same : due_lines ends order journal new ≡ closing_lines old.course.server old.course.opened (closing_with order journal) =
+    ap (λ (b : Bool). due_lines b order journal new) ends_is ∙ append-nil (closed_lines order journal new.closed new.out) ∙ c.lines in
+    record {
+      closed = closing_with order journal;
+      advances = record { goes = record { closes = c.closes; opened_is = goes.opened_is }; last_is = last-is order journal old.last last order_is journal_is };
+      lines = subst P same holds;
+    }
+plays feeding workers old course new last (From a) order journal ends P puts goes given kept order_is journal_is ends_is holds =
+    let none = goes.none_closed in
+    let same : due_lines ends order journal new ≡ [] = ap (λ (b : Bool). due_lines b order journal new) ends_is ∙ ap (λ (j : Option (List Entry)). closed_lines order j new.closed new.out ++ []) none in
+    record {
+      closed = closing_with order journal;
+      advances = record {
+        goes = record {
+          none_closed = ap (closing_with order) none;
+          server = goes.server ∙ ap (λ (x : Course). x.server) puts;
+          opened_is = goes.opened_is ∙ ap (λ (x : Course). option_map (λ (arrivals : List Arrival). arrivals ++ a ∷ []) x.opened) puts;
+        };
+        last_is = last-is order journal old.last last order_is journal_is;
+      };
+      lines = subst P same holds;
+    }
+plays feeding workers old course new last End order journal ends P puts goes given kept order_is journal_is ends_is holds =
+    let c = closed_in_order feeding workers old.course.opened old.course course new.closed order new.course.server journal new.out puts refl goes.closes given kept in
+    let same : due_lines ends order journal new ≡ closing_lines old.course.server old.course.opened (closing_with order journal) ++ EndLine new.course.server.frames ∷ [] =
+    ap (λ (b : Bool). due_lines b order journal new) ends_is ∙ ap (λ (ls : List OutLine). ls ++ EndLine new.course.server.frames ∷ []) c.lines in
+    record {
+      closed = closing_with order journal;
+      advances = record { goes = record { closes = c.closes; opened_is = goes.opened_is }; last_is = last-is order journal old.last last order_is journal_is };
+      lines = subst P same holds;
+    }

@@ -18,47 +18,23 @@ use Rattle.demo_lines.proofs.Parts.{lines_of-unlines}
 use Rattle.demo_lines.proofs.Joins.{whole_text}
 use Rattle.edge_io.proofs.Feeds.{each_of_both}
 use Rattle.out_text.specs.Collecting.{frames_of_events, frames_of}
-use Rattle.out_text.specs.Journals.{dids}
-use Rattle.out_text.specs.Output.{last_of, HasLast, IsFront, IsAllFrames, IsRefused, IsSomeFrames}
-use Rattle.arena_engine.specs.FedGames.{Last, no_last}
+use Rattle.packet_read.specs.declared.arrival.Arrival.{Arrival}
+use Rattle.arena_engine.specs.declared.feeding.Feeding.{Feeding}
+use Rattle.arena_engine.specs.Feedings.{Last, no_last, AreFed, IsLastOf, fed_text}
 use Rattle.arena_engine.specs.Output.{Writes, ReadsSome}
-use Rattle.arena_engine.specs.Texts.{Texts, play_texts}
+use Rattle.arena_engine.specs.Texts.{Texts, texts_of}
 use Rattle.demo_lines.proofs.MapGiven.{after-whole, after-kept}
 use Rattle.demo_lines.proofs.Continuing.{cut_after_lines, IsCutAt}
 use Rattle.demo_lines.proofs.Counting.{going-before}
-use Rattle.out_text.proofs.Fronts.{AreRun, text_with, no_front, is_front, is_all_frames, front_has_last}
-use Rattle.out_text.proofs.Outputs.{nothing_reported}
+use Rattle.out_text.proofs.Fronts.{AreRun}
+use Rattle.arena_engine.proofs.FedTexts.{HoldAtFirst, HaveRun, some_right, all_right, refused_right}
 use Rattle.arena_engine.proofs.Continuing.{continues, continues_lines, map_of-whole, frames_of-all, goes_on_frames}
 
 -- ---- before the first event
 
--- no journal is read off no text
-none_in_no_text : None ≡ last_of (dids [])
-none_in_no_text = sym (ap last_of nothing_reported)
-
-pub frames_of-none : (bytes : List ℕ) → events bytes ≡ [] → frames_of bytes ≡ []
-frames_of-none bytes none = ap (λ es. (frames_of_events es).closed) none
-
 -- the lines of a text in which each has its line feed
 pub lines_of-whole : (lines : List (List ℕ)) → AllByRecursion HasNoLineFeed lines → lines_of (unlines lines) ≡ lines
 lines_of-whole lines each = ap lines_of (sym (append-nil (unlines lines))) ∙ lines_of-unlines lines [] each ∙ append-nil lines
-
--- it is right to write nothing before the first frame
-pub record HoldAtFirst (texts : Texts) : Type 0 where
-  pub some_frames : (bytes : List ℕ) → texts.some_frames bytes no_last []
-  pub all_frames : (bytes : List ℕ) → events bytes ≡ [] → texts.all_frames bytes no_last []
-  pub refused : (bytes : List ℕ) (why : LineRefusal) → fault bytes ≡ Some why → events bytes ≡ [] → texts.refused bytes why no_last []
-
--- so it is for `play`
-pub play_at_first : (workers : ℕ) → HoldAtFirst (play_texts workers)
-play_at_first workers = record {
-  some_frames = λ bytes. record { holds = record { k = 0; front = no_front workers bytes }; last_is = none_in_no_text };
-  all_frames = λ bytes none. record { holds = all_of_none bytes none; last_is = none_in_no_text };
-  refused = λ bytes why faulty none. record { holds = record { faulty = faulty; frames = all_of_none bytes none }; last_is = none_in_no_text };
-}
-  where
-    all_of_none : (bytes : List ℕ) → events bytes ≡ [] → IsAllFrames workers bytes []
-    all_of_none bytes none = let P : ℕ → Type 0 = λ k. IsFront workers bytes k [] in subst P (ap length (sym (frames_of-none bytes none))) (no_front workers bytes)
 
 module _ (texts : Texts) (hold : HoldAtFirst texts) (t : Option (List ℕ)) (last : Last) (none : last ≡ no_last) where
   -- nothing was written, of no frame
@@ -90,48 +66,47 @@ module _ (texts : Texts) (hold : HoldAtFirst texts) (t : Option (List ℕ)) (las
 
 -- ---- while frames are played
 
-module _ (workers : ℕ) (arena : MapView) (r : Reading) (a b : Option (List ℕ)) (t0 t1 : Option (List ℕ)) (es : List Event) (js : List (List Entry)) (last : Option (List Entry)) where
-  -- all events so far were played, with these journals, the last of which is `last`
+module _ (feeding : Feeding) (workers : ℕ) (arena : MapView) (r : Reading) (a b : Option (List ℕ)) (t0 t1 : Option (List ℕ)) (es : List Event) (feeds : List (List Arrival)) (js : List (List Entry)) (last : Last) where
+  -- all events so far were played, in this order of arrival and with these journals, the last of which are `last`
   pub record Played : Type 0 where
     pub reads : Reads start r a b es
     pub whole : is_map_whole r.stage ≡ true
     pub map : r.map ≡ Some arena
     pub is_map : IsMap arena
-    pub run : AreRun workers arena (frames_of_events es).closed js
-    pub last_is : last ≡ last_of js
-    pub written : Appends t0 t1 (text_with arena (frames_of_events es).closed js)
+    pub fed : AreFed feeding (frames_of_events es).closed feeds
+    pub run : AreRun workers arena feeds js
+    pub last_is : IsLastOf feeding last (frames_of_events es).closed feeds js
+    pub written : Appends t0 t1 (fed_text feeding arena feeds js)
 
   -- memory was refused
-  pub memory_on : Played → IfSome a (λ bytes. Writes t0 t1 (HasLast (IsSomeFrames workers bytes) last))
+  pub memory_on : Played → IfSome a (λ bytes. Writes t0 t1 ((texts_of feeding workers).some_frames bytes last))
   memory_on played =
-      continues r a b es (λ bytes. Writes t0 t1 (HasLast (IsSomeFrames workers bytes) last)) played.reads (λ bytes rest is so.
+      continues r a b es (λ bytes. Writes t0 t1 ((texts_of feeding workers).some_frames bytes last)) played.reads (λ bytes rest is so.
       let has = map_of-whole r es bytes rest arena so played.whole played.map in
+      let closed = (frames_of_events es).closed in
+      let on = goes_on_frames r es bytes rest so in
       record {
-        text = text_with arena (frames_of_events es).closed js;
+        text = fed_text feeding arena feeds js;
         written = played.written;
-        holds = front_has_last workers bytes arena (record { has = has; is_map = played.is_map }) (IsSomeFrames workers bytes) (frames_of_events es).closed js last (goes_on_frames r es bytes rest so) played.run played.last_is (record {
-          k = length (frames_of_events es).closed;
-          front = is_front workers bytes arena (record { has = has; is_map = played.is_map }) (frames_of_events es).closed js (goes_on_frames r es bytes rest so) played.run;
-        });
+        holds = some_right feeding workers bytes arena closed feeds js last (record { played = record { has = has; is_map = played.is_map }; on = on; fed = played.fed; run = played.run }) played.last_is;
       })
 
   -- the recording was refused
-  pub refused_on : (why : LineRefusal) → Played → IfSome b (EndsAt r why) → IfSome a (λ bytes. Writes t0 t1 (HasLast (IsRefused workers bytes why) last))
+  pub refused_on : (why : LineRefusal) → Played → IfSome b (EndsAt r why) → IfSome a (λ bytes. Writes t0 t1 ((texts_of feeding workers).refused bytes why last))
   refused_on why played ends =
-      continues r a b es (λ bytes. Writes t0 t1 (HasLast (IsRefused workers bytes why) last)) played.reads (λ bytes rest is so.
+      continues r a b es (λ bytes. Writes t0 t1 ((texts_of feeding workers).refused bytes why last)) played.reads (λ bytes rest is so.
       let here : EndsAt r why rest = let P : Option (List ℕ) → Type 0 = λ o. IfSome o (EndsAt r why) in subst P is ends in
       let has = map_of-whole r es bytes rest arena so played.whole played.map in
+      let closed = (frames_of_events es).closed in
+      let on = goes_on_frames r es bytes rest so in
       record {
-        text = text_with arena (frames_of_events es).closed js;
+        text = fed_text feeding arena feeds js;
         written = played.written;
-        holds = front_has_last workers bytes arena (record { has = has; is_map = played.is_map }) (IsRefused workers bytes why) (frames_of_events es).closed js last (goes_on_frames r es bytes rest so) played.run played.last_is (record {
-          faulty = so.fault_is ∙ here.fault;
-          frames = is_all_frames workers bytes arena (record { has = has; is_map = played.is_map }) (frames_of_events es).closed js (frames_of-all r es bytes rest so here.events) played.run;
-        });
+        holds = refused_right feeding workers bytes arena closed feeds js last why (record { played = record { has = has; is_map = played.is_map }; on = on; fed = played.fed; run = played.run }) played.last_is (frames_of-all r es bytes rest so here.events) (so.fault_is ∙ here.fault);
       })
 
   -- the source failed
-  pub fault_on : (l : Option (List ℕ)) → Played → ReadsFront r b l [] → ReadsSome (λ bytes. HasLast (IsAllFrames workers bytes) last) a l t0 t1
+  pub fault_on : (l : Option (List ℕ)) → Played → ReadsFront r b l [] → ReadsSome (λ bytes. (texts_of feeding workers).all_frames bytes last) a l t0 t1
   fault_on l played reads =
       let lines = played.reads.lines ++ reads.lines in
       let u = after r reads.lines in
@@ -159,10 +134,12 @@ module _ (workers : ℕ) (arena : MapView) (r : Reading) (a b : Option (List ℕ
         going = ap (λ (t : Reading). is_over t.stage) (sym reached) ∙ reads.going;
         consumed = subst (Consumes a l) (sym joined)
             (Consumes-trans a b l (unlines played.reads.lines) (unlines reads.lines ++ reads.front) (subst (Consumes a b) taken played.reads.consumed) reads.consumed);
-        frames = record {
-          text = text_with arena (frames_of_events es).closed js;
-          written = played.written;
-          holds = front_has_last workers bytes arena (record { has = has; is_map = played.is_map }) (IsAllFrames workers bytes) (frames_of_events es).closed js last (goes_on_frames u es bytes [] so) played.run played.last_is
-              (is_all_frames workers bytes arena (record { has = has; is_map = played.is_map }) (frames_of_events es).closed js (frames_of-all u es bytes [] so refl) played.run);
-        };
+        frames =
+            let closed = (frames_of_events es).closed in
+            let on = goes_on_frames u es bytes [] so in
+            record {
+              text = fed_text feeding arena feeds js;
+              written = played.written;
+              holds = all_right feeding workers bytes arena closed feeds js last (record { played = record { has = has; is_map = played.is_map }; on = on; fed = played.fed; run = played.run }) played.last_is (frames_of-all u es bytes [] so refl);
+            };
       }

@@ -1,19 +1,16 @@
 -- Lemmas on the words, and on how a recording is played.
 pub mod Spelled
 pub mod Words
+pub mod PutInOrder
 pub mod Closing
 pub mod Printed
 pub mod Continuing
 pub mod Taken
+pub mod FedTexts
 pub mod Exits
-pub mod FedClosing
-pub mod FedExits
 pub mod Playing
-pub mod FedPlaying
 pub mod Running
-pub mod FedRunning
 pub mod Ended
-pub mod FedEnded
 pub mod Reported
 pub mod Summing
 pub mod MapRead

@@ -11,7 +11,7 @@ use Rattle.arena_engine.specs.declared.played.Played.{Played}
 use Rattle.arena_engine.specs.declared.report.Report.{Report}
 use Rattle.arena_engine.specs.Endings.{Counts, Ends}
 use Rattle.arena_engine.specs.Output.{Writes}
-use Rattle.arena_engine.specs.FedGames.{Last}
+use Rattle.arena_engine.specs.Feedings.{Last}
 use Rattle.arena_engine.specs.Texts.{Texts}
 use Rattle.arena_engine.specs.Played.{IsPlayedWith}
 use Rattle.arena_engine.specs.PlayEnds.{PlaysAll, StopsAtRefusal, StopsAtReadFault, StopsAtWriteFault, StopsAtMemory, PlaysTo}

@@ -6,7 +6,6 @@ use Rattle.edge_io.specs.Counts.{HasRisen}
 use Rattle.edge_io.specs.Lines.{ahead, HasNotReadAhead}
 use Rattle.edge_io.proofs.ReadingAhead.{HasNotReadAhead-trans}
 use Rattle.edge_io.specs.Writes.{AppendsPart}
-use Rattle.entity_recs.specs.declared.effect.Entry.{Entry}
 use Rattle.arena_map.specs.Maps.{MapView, IsMap}
 use Rattle.demo_lines.specs.declared.event.Event.{Event}
 use Rattle.demo_lines.specs.declared.event.Event.TheVariants.{Frame, From, End}
@@ -20,19 +19,20 @@ use Rattle.demo_lines.specs.Reads as reads_of
 use Rattle.demo_lines.proofs.Walks.{whole_after}
 use Rattle.demo_lines.proofs.Given.{Reads-given, Reads-no_map, ReadsFront-given, EndsAt-given, Refuses-given}
 use Rattle.out_text.specs.OutLines.{text_of}
-use Rattle.out_text.specs.Output.{HasLast, IsOutput, IsRefused, IsAllFrames, IsCut, IsSomeFrames}
 use Rattle.arena_engine.specs.declared.stop.Stop.{Stop}
 use Rattle.arena_engine.specs.declared.stop.Stop.TheVariants.{Refused, ReadFault, WriteFault, NoMemory}
 use Rattle.arena_engine.specs.StopOf.{stop_of}
 use Rattle.arena_engine.specs.Stops.{OnRefused, OnReadFault, OnWriteFault, OnMemory}
 use Rattle.out_text.specs.Printers.{Prints, FailsIn}
 use Rattle.playback.specs.Playbacks.{IsReady}
-use Rattle.arena_engine.specs.FedGames.{Last, no_last}
-use Rattle.arena_engine.specs.Texts.{Texts}
-use Rattle.arena_engine.specs.Games.{GameView, new_game, Advances, Plays, event_lines, is_end}
+use Rattle.arena_engine.specs.declared.feeding.Feeding.{Feeding}
+use Rattle.arena_engine.specs.Feedings.{Last, no_last, fed_text}
+use Rattle.arena_engine.specs.Texts.{Texts, texts_of}
+use Rattle.arena_engine.specs.Games.{GameView, Closing, new_game, Advances, Plays, event_lines, is_end}
 use Rattle.arena_engine.specs.Progress.{Progress, Runs, ReadsAsNeeded}
-use Rattle.arena_engine.specs.Output.{Writes, ReadsSome, ReadsToEnd, ReadsToRefusal, HasRoom}
-use Rattle.arena_engine.proofs.Exits.{HoldAtFirst, refused_at_first, fault_at_first, refused_on, fault_on}
+use Rattle.arena_engine.specs.Output.{Writes, ReadsSome, ReadsToEnd, ReadsToRefusal}
+use Rattle.arena_engine.proofs.Exits.{refused_at_first, fault_at_first, refused_on, fault_on}
+use Rattle.arena_engine.proofs.FedTexts.{HoldAtFirst}
 use Rattle.arena_engine.proofs.Exits as exits
 use Rattle.demo_lines.proofs.Consumed.{refusal_on, cut_end_after}
 use Rattle.arena_engine.proofs.Playing.{not_over, is_ready, memory_on, cut_on, done_on, whole_on, played_on, text_so_far, fits_on, goes_on, begins}
@@ -85,13 +85,13 @@ module _ (texts : Texts) (hold : HoldAtFirst texts) (demo : DemoReaderView) (d :
       let Q : Option (List ℕ) → Type 0 = λ o. ReadsFront start o l' [] in
       read_fault_of d (ReadsFront start (ahead [] l) l' []) (ReadsSome (λ bytes. texts.all_frames bytes last) l l' t t) (λ reads. fault_at_first texts hold t last none l l' (subst Q (prepend_known-nil l) reads)) (subst P is h fresh_is_open)
 
-pub first_event : (workers : ℕ) (demo : DemoReaderView) (r : Reading) (l b t : Option (List ℕ)) (e : Event) (arena : MapView) (g : GameView) → demo ≡ fresh_reader
+pub first_event : (feeding : Feeding) (workers : ℕ) (demo : DemoReaderView) (r : Reading) (l b t : Option (List ℕ)) (e : Event) (arena : MapView) (g : GameView) → demo ≡ fresh_reader
     → (IsOpen demo → Reads demo.reading r (ahead demo.pending l) b (e ∷ [])) → r.stage ≡ stage_after e → IsReading r → r.map ≡ Some arena → IsMap arena → g ≡ new_game arena
-    → Progress workers arena r l b t t g e
-first_event workers demo r l b t e arena g is h stage holds has is_map sets =
+    → Progress feeding workers arena r l b t t g e
+first_event feeding workers demo r l b t e arena g is h stage holds has is_map sets =
     let P : DemoReaderView → Type 0 = λ x. IsOpen x → Reads x.reading r (ahead x.pending l) b (e ∷ []) in
     let Q : Option (List ℕ) → Type 0 = λ o. Reads start r o b (e ∷ []) in
-    begins workers arena r l b t g e (subst Q (prepend_known-nil l) (subst P is h fresh_is_open)) stage (let few = holds.frames in let most = holds.limit in omega (arith, few, most)) holds.arrivals has is_map sets
+    begins feeding workers arena r l b t g e (subst Q (prepend_known-nil l) (subst P is h fresh_is_open)) stage (let few = holds.frames in let most = holds.limit in omega (arith, few, most)) holds.arrivals has is_map sets
 
 -- the map is whole then
 pub map_is_given : (r : Reading) (e : Event) → r.stage ≡ stage_after e → is_map_whole r.stage ≡ true
@@ -112,9 +112,9 @@ appends_all taken faults room k1 k2 text prints = subst (Appends (taken k1) (tak
 pub room_after : {K : Type 0} (taken : K → Option (List ℕ)) (faults room : K → ℕ) (k1 k2 : K) (text : List ℕ) → Prints taken faults room k1 k2 [] [] text → room k1 ≤ room k2 + length text
 room_after taken faults room k1 k2 text prints = let is = ap length (prints.whole ∙ append-nil prints.written) in omega (arith, is, prints.roomy)
 
-module _ (workers : ℕ) (demo : DemoReaderView) (a b t0 t1 : Option (List ℕ)) (g : GameView) (e : Event) (m0 m1 n0 n1 k0 k1 : ℕ) (runs : Runs workers demo a b t0 t1 g e m0 m1 n0 n1 k0 k1) where
+module _ (feeding : Feeding) (workers : ℕ) (demo : DemoReaderView) (a b t0 t1 : Option (List ℕ)) (g : GameView) (e : Event) (m0 m1 n0 n1 k0 k1 : ℕ) (runs : Runs feeding workers demo a b t0 t1 g e m0 m1 n0 n1 k0 k1) where
   pub game_is_ready : IsReady g.course e
-  game_is_ready = is_ready workers runs.arena runs.full a b t0 t1 g e runs.progress
+  game_is_ready = is_ready feeding workers runs.arena runs.full a b t0 t1 g e runs.progress
 
   map_is_whole : is_map_whole runs.full.stage ≡ true
   map_is_whole = map_is_given runs.full e runs.progress.stage
@@ -122,20 +122,20 @@ module _ (workers : ℕ) (demo : DemoReaderView) (a b t0 t1 : Option (List ℕ))
   pub reader_is_open : is_end e ≡ false → IsOpen demo
   reader_is_open going = record { no_stop = runs.no_stop; not_over = ap (λ (r : Reading). is_over r.stage) runs.given ∙ ap is_over runs.progress.stage ∙ not_over e going }
 
-  pub memory_failed : (s : Stop) (g2 : GameView) (t2 : Option (List ℕ)) (last : Option (List Entry)) → last ≡ g2.last → OnMemory s (g2.last ≡ g.last) → OnMemory s (t2 ≡ t1)
-      → OnMemory s (IfSome a (λ bytes. Writes t0 t2 (HasLast (IsSomeFrames workers bytes) last)))
+  pub memory_failed : (s : Stop) (g2 : GameView) (t2 : Option (List ℕ)) (last : Last) → last ≡ g2.last → OnMemory s (g2.last ≡ g.last) → OnMemory s (t2 ≡ t1)
+      → OnMemory s (IfSome a (λ bytes. Writes t0 t2 ((texts_of feeding workers).some_frames bytes last)))
   memory_failed (Refused line fault rule) g2 t2 last is kept same = tt
   memory_failed ReadFault g2 t2 last is kept same = tt
   memory_failed WriteFault g2 t2 last is kept same = tt
   memory_failed NoMemory g2 t2 last is kept same =
-      let P : Option (List ℕ) → Type 0 = λ t. IfSome a (λ bytes. Writes t0 t (HasLast (IsSomeFrames workers bytes) last)) in
-      let Q : Option (List Entry) → Type 0 = λ l. IfSome a (λ bytes. Writes t0 t1 (HasLast (IsSomeFrames workers bytes) l)) in
-      subst P (sym same) (subst Q (sym (is ∙ kept)) (memory_on workers runs.arena runs.full a b t0 t1 g e runs.progress))
+      let P : Option (List ℕ) → Type 0 = λ t. IfSome a (λ bytes. Writes t0 t ((texts_of feeding workers).some_frames bytes last)) in
+      let Q : Last → Type 0 = λ l. IfSome a (λ bytes. Writes t0 t1 ((texts_of feeding workers).some_frames bytes l)) in
+      subst P (sym same) (subst Q (sym (is ∙ kept)) (memory_on feeding workers runs.arena runs.full a b t0 t1 g e runs.progress))
 
   pub all_read : {S : Type 0} (last : S → ℕ) (ended : S → Bool) (sure : S → Type 0) (s0 s1 : S) (pending : List ℕ) (l : Option (List ℕ)) → is_end e ≡ true → b ≡ ahead pending l
       → ReadsAsNeeded last ended sure a b s0 s1 pending e → ReadsToEnd s0 s1 (last s1) (ended s1 ≡ ended s0) (ended s1 ≡ true) a l
   all_read last ended sure s0 s1 pending l is_last is unread =
-      whole_on workers runs.arena runs.full a b t0 t1 g e runs.progress s0 s1 (last s1) (ended s1 ≡ ended s0) (ended s1 ≡ true) pending l (end_is_end e is_last) is (by_end unread.needed)
+      whole_on feeding workers runs.arena runs.full a b t0 t1 g e runs.progress s0 s1 (last s1) (ended s1 ≡ ended s0) (ended s1 ≡ true) pending l (end_is_end e is_last) is (by_end unread.needed)
     where
       by_end : {P Q R : Type 0} → P ⊎ ((e ≡ End) × Q × R) → P ⊎ (Q × R)
       by_end (inl h) = inl h
@@ -160,49 +160,49 @@ module _ (workers : ℕ) (demo : DemoReaderView) (a b t0 t1 : Option (List ℕ))
   next_cause d m2 going h =
       read_fault_of d (HasRisen m1 m2) (HasRisen m0 m2) (λ risen. subst (λ m. HasRisen m m2) runs.read_same risen) (h (reader_is_open going))
 
-  pub write_failed : {K : Type 0} (taken : K → Option (List ℕ)) (faults : K → ℕ) (k1 k2 : K) (s : Stop) (g2 : GameView) (last : Option (List Entry)) → taken k1 ≡ t1 → last ≡ g2.last
-      → OnWriteFault s (Plays workers g g2 e (λ lines. FailsIn taken faults k1 k2 (text_of lines))) → OnWriteFault s (IfSome a (λ bytes. Writes t0 (taken k2) (IsCut workers bytes last)))
+  pub write_failed : {K : Type 0} (taken : K → Option (List ℕ)) (faults : K → ℕ) (k1 k2 : K) (s : Stop) (g2 : GameView) (last : Last) → taken k1 ≡ t1 → last ≡ g2.last
+      → OnWriteFault s (Plays feeding workers g g2 e (λ lines. FailsIn taken faults k1 k2 (text_of lines))) → OnWriteFault s (IfSome a (λ bytes. Writes t0 (taken k2) ((texts_of feeding workers).cut bytes last)))
   write_failed taken faults k1 k2 (Refused line fault rule) g2 last here is failed = tt
   write_failed taken faults k1 k2 ReadFault g2 last here is failed = tt
   write_failed taken faults k1 k2 WriteFault g2 last here is failed =
-      let P : Option (List Entry) → Type 0 = λ l. IfSome a (λ bytes. Writes t0 (taken k2) (IsCut workers bytes l)) in
+      let P : Last → Type 0 = λ l. IfSome a (λ bytes. Writes t0 (taken k2) ((texts_of feeding workers).cut bytes l)) in
       let part = subst (λ (t : Option (List ℕ)). AppendsPart t (taken k2) (text_of (event_lines g.course g2.course e failed.closed))) here failed.lines.part in
-      subst P (sym is) (cut_on workers runs.arena runs.full a b t0 t1 g e runs.progress g2 failed.closed failed.advances (taken k2) part)
+      subst P (sym is) (cut_on feeding workers runs.arena runs.full a b t0 t1 g e runs.progress g2 failed.closed failed.advances (taken k2) part)
   write_failed taken faults k1 k2 NoMemory g2 last here is failed = tt
 
   -- a write that failed was counted
   pub write_counted : {K : Type 0} (taken : K → Option (List ℕ)) (faults : K → ℕ) (k1 k2 : K) (s : Stop) (g2 : GameView) → faults k1 ≡ n1
-      → OnWriteFault s (Plays workers g g2 e (λ lines. FailsIn taken faults k1 k2 (text_of lines))) → OnWriteFault s (HasRisen n0 (faults k2))
+      → OnWriteFault s (Plays feeding workers g g2 e (λ lines. FailsIn taken faults k1 k2 (text_of lines))) → OnWriteFault s (HasRisen n0 (faults k2))
   write_counted taken faults k1 k2 (Refused line fault rule) g2 here failed = tt
   write_counted taken faults k1 k2 ReadFault g2 here failed = tt
   write_counted taken faults k1 k2 WriteFault g2 here failed = subst (λ (n : ℕ). HasRisen n (faults k2)) (here ∙ runs.write_same) failed.lines.risen
   write_counted taken faults k1 k2 NoMemory g2 here failed = tt
 
   -- where the sink has room for every right output, this text fits
-  pub not_cut : (s : Stop) (g2 : GameView) → OnWriteFault s (Plays workers g g2 e (λ lines. length (text_of lines) ≤ k1 → ⊥)) → IsSomeAnd a (λ bytes. HasRoom workers bytes k0) → OnWriteFault s ⊥
+  pub not_cut : (s : Stop) (g2 : GameView) → OnWriteFault s (Plays feeding workers g g2 e (λ lines. length (text_of lines) ≤ k1 → ⊥)) → IsSomeAnd a (λ bytes. (texts_of feeding workers).has_room bytes k0) → OnWriteFault s ⊥
   not_cut (Refused line fault rule) g2 sure roomy = tt
   not_cut ReadFault g2 sure roomy = tt
-  not_cut WriteFault g2 sure roomy = sure.lines (fits_on workers runs.arena runs.full a b t0 t1 g e runs.progress g2 sure.closed sure.advances k0 k1 roomy runs.roomy)
+  not_cut WriteFault g2 sure roomy = sure.lines (fits_on feeding workers runs.arena runs.full a b t0 t1 g e runs.progress g2 sure.closed sure.advances k0 k1 roomy runs.roomy)
   not_cut NoMemory g2 sure roomy = tt
 
   -- ---- the event was played
 
-  module _ (g2 : GameView) (t2 : Option (List ℕ)) (closed : Option (List Entry)) (goes : Advances workers g g2 e closed) (written : Appends t1 t2 (text_of (event_lines g.course g2.course e closed))) where
-    module _ (last : Option (List Entry)) (ends : last ≡ g2.last) where
-      with_last : (P : Option (List Entry) → Type 0) → P g2.last → P last
+  module _ (g2 : GameView) (t2 : Option (List ℕ)) (closed : Option Closing) (goes : Advances feeding workers g g2 e closed) (written : Appends t1 t2 (text_of (event_lines g.course g2.course e closed))) where
+    module _ (last : Last) (ends : last ≡ g2.last) where
+      with_last : (P : Last → Type 0) → P g2.last → P last
       with_last P p = subst P (sym ends) p
 
-      pub all_done : is_end e ≡ true → IfSome a (λ bytes. Writes t0 t2 (HasLast (IsOutput workers bytes) last))
+      pub all_done : is_end e ≡ true → IfSome a (λ bytes. Writes t0 t2 ((texts_of feeding workers).whole bytes last))
       all_done is_last =
-          with_last (λ l. IfSome a (λ bytes. Writes t0 t2 (HasLast (IsOutput workers bytes) l))) (done_on workers runs.arena runs.full a b t0 t1 g e runs.progress g2 closed goes t2 (end_is_end e is_last) written)
+          with_last (λ l. IfSome a (λ bytes. Writes t0 t2 ((texts_of feeding workers).whole bytes l))) (done_on feeding workers runs.arena runs.full a b t0 t1 g e runs.progress g2 closed goes t2 (end_is_end e is_last) written)
 
       pub next_refused : (d : DemoStop) → is_end e ≡ false → (IsOpen demo → reads_of.OnRefused d (λ why. IfSome b (EndsAt demo.reading why)))
-          → OnRefused (stop_of d) (λ why. IfSome a (λ bytes. Writes t0 t2 (HasLast (IsRefused workers bytes why) last)))
+          → OnRefused (stop_of d) (λ why. IfSome a (λ bytes. Writes t0 t2 ((texts_of feeding workers).refused bytes why last)))
       next_refused d going h =
           let R : Reading → LineRefusal → Type 0 = λ r why. IfSome b (EndsAt r why) in
-          with_last (λ l. OnRefused (stop_of d) (λ why. IfSome a (λ bytes. Writes t0 t2 (HasLast (IsRefused workers bytes why) l))))
-          (refused_of d (R demo.reading) (λ why. IfSome a (λ bytes. Writes t0 t2 (HasLast (IsRefused workers bytes why) g2.last)))
-          (λ why at_end. refused_on workers runs.arena runs.full a b t0 t2 (runs.progress.events ++ e ∷ []) _ _ why (played_on workers runs.arena runs.full a b t0 t1 g e runs.progress g2 closed goes t2 going written)
+          with_last (λ l. OnRefused (stop_of d) (λ why. IfSome a (λ bytes. Writes t0 t2 ((texts_of feeding workers).refused bytes why l))))
+          (refused_of d (R demo.reading) (λ why. IfSome a (λ bytes. Writes t0 t2 ((texts_of feeding workers).refused bytes why g2.last)))
+          (λ why at_end. refused_on feeding workers runs.arena runs.full a b t0 t2 (runs.progress.events ++ e ∷ []) _ _ _ why (played_on feeding workers runs.arena runs.full a b t0 t1 g e runs.progress g2 closed goes t2 going written)
           (ends_given why b (subst (λ (r : Reading). R r why) runs.given at_end)))
           (h (reader_is_open going)))
         where
@@ -211,36 +211,36 @@ module _ (workers : ℕ) (demo : DemoReaderView) (a b t0 t1 : Option (List ℕ))
           ends_given why (Some bytes) at_end = EndsAt-given runs.full map_is_whole why bytes at_end
 
       pub next_fault : (d : DemoStop) (l : Option (List ℕ)) → is_end e ≡ false → (IsOpen demo → reads_of.OnReadFault d (ReadsFront demo.reading b l []))
-          → OnReadFault (stop_of d) (ReadsSome (λ bytes. HasLast (IsAllFrames workers bytes) last) a l t0 t2)
+          → OnReadFault (stop_of d) (ReadsSome (λ bytes. (texts_of feeding workers).all_frames bytes last) a l t0 t2)
       next_fault d l going h =
           let R : Reading → Type 0 = λ r. ReadsFront r b l [] in
-          with_last (λ j. OnReadFault (stop_of d) (ReadsSome (λ bytes. HasLast (IsAllFrames workers bytes) j) a l t0 t2))
-          (read_fault_of d (R demo.reading) (ReadsSome (λ bytes. HasLast (IsAllFrames workers bytes) g2.last) a l t0 t2)
-          (λ reads. fault_on workers runs.arena runs.full a b t0 t2 (runs.progress.events ++ e ∷ []) _ _ l (played_on workers runs.arena runs.full a b t0 t1 g e runs.progress g2 closed goes t2 going written)
+          with_last (λ j. OnReadFault (stop_of d) (ReadsSome (λ bytes. (texts_of feeding workers).all_frames bytes j) a l t0 t2))
+          (read_fault_of d (R demo.reading) (ReadsSome (λ bytes. (texts_of feeding workers).all_frames bytes g2.last) a l t0 t2)
+          (λ reads. fault_on feeding workers runs.arena runs.full a b t0 t2 (runs.progress.events ++ e ∷ []) _ _ _ l (played_on feeding workers runs.arena runs.full a b t0 t1 g e runs.progress g2 closed goes t2 going written)
           (ReadsFront-given runs.full map_is_whole b l [] (subst R runs.given reads)))
           (h (reader_is_open going)))
 
       -- the text is that of the frames before
-      front_on : is_end e ≡ false → IfSome a (λ bytes. Writes t0 t2 (HasLast (IsSomeFrames workers bytes) last))
+      front_on : is_end e ≡ false → IfSome a (λ bytes. Writes t0 t2 ((texts_of feeding workers).some_frames bytes last))
       front_on going =
-          with_last (λ l. IfSome a (λ bytes. Writes t0 t2 (HasLast (IsSomeFrames workers bytes) l)))
-          (exits.memory_on workers runs.arena runs.full a b t0 t2 (runs.progress.events ++ e ∷ []) _ _ (played_on workers runs.arena runs.full a b t0 t1 g e runs.progress g2 closed goes t2 going written))
+          with_last (λ l. IfSome a (λ bytes. Writes t0 t2 ((texts_of feeding workers).some_frames bytes l)))
+          (exits.memory_on feeding workers runs.arena runs.full a b t0 t2 (runs.progress.events ++ e ∷ []) _ _ _ (played_on feeding workers runs.arena runs.full a b t0 t1 g e runs.progress g2 closed goes t2 going written))
 
-      pub next_front : (d : DemoStop) → is_end e ≡ false → OnReadFault (stop_of d) (IfSome a (λ bytes. Writes t0 t2 (HasLast (IsSomeFrames workers bytes) last)))
-      next_front d going = any_read_fault d (IfSome a (λ bytes. Writes t0 t2 (HasLast (IsSomeFrames workers bytes) last))) (front_on going)
+      pub next_front : (d : DemoStop) → is_end e ≡ false → OnReadFault (stop_of d) (IfSome a (λ bytes. Writes t0 t2 ((texts_of feeding workers).some_frames bytes last)))
+      next_front d going = any_read_fault d (IfSome a (λ bytes. Writes t0 t2 ((texts_of feeding workers).some_frames bytes last))) (front_on going)
 
-      pub next_no_memory : (d : DemoStop) → is_end e ≡ false → OnMemory (stop_of d) (IfSome a (λ bytes. Writes t0 t2 (HasLast (IsSomeFrames workers bytes) last)))
-      next_no_memory d going = no_memory_of d (IfSome a (λ bytes. Writes t0 t2 (HasLast (IsSomeFrames workers bytes) last))) (front_on going)
+      pub next_no_memory : (d : DemoStop) → is_end e ≡ false → OnMemory (stop_of d) (IfSome a (λ bytes. Writes t0 t2 ((texts_of feeding workers).some_frames bytes last)))
+      next_no_memory d going = no_memory_of d (IfSome a (λ bytes. Writes t0 t2 ((texts_of feeding workers).some_frames bytes last))) (front_on going)
 
     pub runs_on : (demo' : DemoReaderView) (b' : Option (List ℕ)) (e' : Event) (m2 n2 k2 : ℕ) → is_end e ≡ false
         → (IsOpen demo → Reads demo.reading demo'.reading b b' (e' ∷ [])) → demo'.reading.stage ≡ stage_after e' → IsReading demo'.reading → demo'.stop ≡ None → m2 ≡ m1 → n2 ≡ n1
-        → k1 ≤ k2 + length (text_of (event_lines g.course g2.course e closed)) → Runs workers demo' a b' t0 t2 g2 e' m0 m2 n0 n2 k0 k2
+        → k1 ≤ k2 + length (text_of (event_lines g.course g2.course e closed)) → Runs feeding workers demo' a b' t0 t2 g2 e' m0 m2 n0 n2 k0 k2
     runs_on demo' b' e' m2 n2 k2 going reads stage holds no_stop read_on write_on room_on =
-        let so_far = text_so_far workers runs.arena runs.full a b t0 t1 g e runs.progress g2 closed goes in
+        let so_far = text_so_far feeding workers runs.arena runs.full a b t0 t1 g e runs.progress g2 closed goes in
         let left = runs.roomy in
         let here : Reads (without_map runs.full) demo'.reading b b' (e' ∷ []) =
         let R : Reading → Type 0 = λ r. Reads r demo'.reading b b' (e' ∷ []) in subst R runs.given (reads (reader_is_open going)) in
-        let next = goes_on workers runs.arena runs.full a b t0 t1 g e runs.progress g2 closed goes (having_map runs.full.map demo'.reading) b' t2 e' going written
+        let next = goes_on feeding workers runs.arena runs.full a b t0 t1 g e runs.progress g2 closed goes (having_map runs.full.map demo'.reading) b' t2 e' going written
         (Reads-given runs.full map_is_whole demo'.reading b b' (e' ∷ []) here) stage (let few = holds.frames in let most = holds.limit in omega (arith, few, most)) holds.arrivals in
         let text = ap length next.text ∙ length-append so_far (text_of (event_lines g.course g2.course e closed)) in
         record {
@@ -283,11 +283,11 @@ module _ {S : Type 0} (last : S → ℕ) (ended : S → Bool) (sure : S → Type
       record { needed = subst Q (prepend_known-nil l) (subst P is needed fresh_is_open); keeps = keeps }
 
   -- the first event was read, and then the map was given out
-  pub runs_first : (workers : ℕ) (demo' taken : DemoReaderView) (arena : MapView) (a l t : Option (List ℕ)) (g : GameView) (e : Event) (m0 m1 n k : ℕ) (s0 s1 : S) → taken ≡ map_taken demo'
-      → Progress workers arena demo'.reading a (ahead demo'.pending l) t t g e → demo'.stop ≡ None → m1 ≡ m0 → ReadsAsNeeded last ended sure a (ahead demo'.pending l) s0 s1 demo'.pending e
-      → Runs workers taken a (ahead taken.pending l) t t g e m0 m1 n n k k × ReadsAsNeeded last ended sure a (ahead taken.pending l) s0 s1 taken.pending e
-  runs_first workers demo' taken arena a l t g e m0 m1 n k s0 s1 is progress no_stop same unread =
-      let P : DemoReaderView → Type 0 = λ d. Runs workers d a (ahead d.pending l) t t g e m0 m1 n n k k × ReadsAsNeeded last ended sure a (ahead d.pending l) s0 s1 d.pending e in
+  pub runs_first : (feeding : Feeding) (workers : ℕ) (demo' taken : DemoReaderView) (arena : MapView) (a l t : Option (List ℕ)) (g : GameView) (e : Event) (m0 m1 n k : ℕ) (s0 s1 : S) → taken ≡ map_taken demo'
+      → Progress feeding workers arena demo'.reading a (ahead demo'.pending l) t t g e → demo'.stop ≡ None → m1 ≡ m0 → ReadsAsNeeded last ended sure a (ahead demo'.pending l) s0 s1 demo'.pending e
+      → Runs feeding workers taken a (ahead taken.pending l) t t g e m0 m1 n n k k × ReadsAsNeeded last ended sure a (ahead taken.pending l) s0 s1 taken.pending e
+  runs_first feeding workers demo' taken arena a l t g e m0 m1 n k s0 s1 is progress no_stop same unread =
+      let P : DemoReaderView → Type 0 = λ d. Runs feeding workers d a (ahead d.pending l) t t g e m0 m1 n n k k × ReadsAsNeeded last ended sure a (ahead d.pending l) s0 s1 d.pending e in
       subst P (sym is) (record { arena = arena; full = demo'.reading; given = refl; progress = progress; no_stop = no_stop; read_same = same; write_same = refl; roomy = omega arith }, unread)
 
   -- the recording was refused before it gave an event

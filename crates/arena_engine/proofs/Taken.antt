@@ -5,7 +5,7 @@ use Rattle.out_text.specs.Journals.{dids}
 use Rattle.out_text.specs.OneTaker.{HasOneTakerEach}
 use Rattle.out_text.specs.Feeds.{froms}
 use Rattle.out_text.proofs.OneTaker.{taken_in_output, taken_in_front, one_taker_each}
-use Rattle.arena_engine.specs.FedGames.{Last}
+use Rattle.arena_engine.specs.Feedings.{Last}
 use Rattle.arena_engine.specs.Output.{Writes}
 use Rattle.arena_engine.specs.Texts.{Texts, play_texts, feed_texts}
 

@@ -36,6 +36,7 @@ pub mod Summaries
 pub mod Laws
 pub mod Endings
 pub mod Making
+pub mod Feedings
 pub mod Games
 pub mod StopOf
 pub mod Stops
@@ -46,8 +47,6 @@ pub mod Progress
 pub mod Reports
 pub mod Serving
 pub mod Played
-pub mod FedGames
-pub mod FedProgress
 pub mod Planned
 pub mod Checked
 pub mod MapReads

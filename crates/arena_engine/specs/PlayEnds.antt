@@ -7,7 +7,7 @@ use Rattle.demo_lines.specs.Bytes.{LineRefusal}
 use Rattle.arena_engine.specs.declared.stop.Stop.{Stop}
 use Rattle.arena_engine.specs.declared.stop.Stop.TheVariants.{Refused, ReadFault, WriteFault, NoMemory}
 use Rattle.arena_engine.specs.Output.{Writes, ReadsSome, ReadsToEnd, ReadsToRefusal}
-use Rattle.arena_engine.specs.FedGames.{Last}
+use Rattle.arena_engine.specs.Feedings.{Last}
 use Rattle.arena_engine.specs.Texts.{Texts}
 
 module _ {S K : Type 0} (s : sources.Ghosts S) (k : sinks.Ghosts K) (texts : Texts) (source source' : S) (sink sink' : K)

@@ -6,7 +6,7 @@ use Rattle.arena_engine.specs.declared.stop.Stop.{Stop}
 use Rattle.arena_engine.specs.declared.stop.Stop.TheVariants.{Refused, ReadFault, WriteFault, NoMemory}
 use Rattle.arena_engine.specs.declared.played.Played.{Played}
 use Rattle.arena_engine.specs.declared.report.Report.{Report}
-use Rattle.arena_engine.specs.FedGames.{Last}
+use Rattle.arena_engine.specs.Feedings.{Last}
 
 -- the refused line, its fault, and the rule of the map that it breaks
 abbrev pub refusal_of : Report → LineRefusal

@@ -1,11 +1,12 @@
 -- Which texts a command writes of a recording that it plays, by how that ends.
-use Rattle.std.specs.Prelude.{ℕ, List, Option, None}
-use Rattle.entity_recs.specs.declared.effect.Entry.{Entry}
+use Rattle.std.specs.Prelude.{ℕ, List}
 use Rattle.demo_lines.specs.Bytes.{LineRefusal}
 use Rattle.out_text.specs.Output.{HasLast, IsOutput, IsRefused, IsAllFrames, IsSomeFrames, IsCut}
 use Rattle.out_text.specs.Feeds.{HasLastFed, IsFedOutput, IsFedRefused, IsFedFrames, IsFedSome, IsFedCut}
 use Rattle.arena_engine.specs.Output.{HasRoom, HasFedRoom}
-use Rattle.arena_engine.specs.FedGames.{Last}
+use Rattle.arena_engine.specs.declared.feeding.Feeding.{Feeding}
+use Rattle.arena_engine.specs.declared.feeding.Feeding.TheVariants.{Recorded, Threaded}
+use Rattle.arena_engine.specs.Feedings.{Last}
 
 -- what is right to write of a recording, with this last frame
 pub record Texts : Type 1 where
@@ -44,6 +45,7 @@ feed_texts workers = record {
   has_room = λ bytes. HasFedRoom workers bytes;
 }
 
--- a last frame whose packets were not fed, of which there is no order of arrival
-abbrev pub unfed : Option (List Entry) → Last
-unfed journal = record { order = None; journal = journal }
+-- those of what is fed so
+abbrev pub texts_of : Feeding → ℕ → Texts
+texts_of Recorded workers = play_texts workers
+texts_of Threaded workers = feed_texts workers

@@ -2,11 +2,14 @@ ghost use Rattle.std.specs.Prelude.{◌≡◌};
 ghost use Rattle.playback.specs.Playbacks.{entries_if};
 ghost use Rattle.arena_engine.specs.Games as games;
 
+use crate::arranging::arrange_for;
+use crate::feeding::Feeding;
 use crate::printing::print_event;
 use crate::stop::Stop;
 use arena_map::ArenaMap;
 use demo_lines::Event;
 use edge_io::Sink;
+use feed_queue::ArrivalOrder;
 use move_journal::Journal;
 use out_text::Printer;
 use playback::{Host, Playback};
@@ -18,11 +21,13 @@ use std::thread::Threads;
 
 // An event is taken, and then what it closed is printed: what runs a frame knows no sink, so few functions are
 // generic in it, and the buffer is empty between two events.
-/// The game of a recording: its playback, the journal of the last frame that was run, and what prints.
+/// The game of a recording: its playback, the journal and the order of arrival of the last frame that was run, and what
+/// prints.
 #[derive(Drop)]
 pub struct Game {
     playback: Playback,
     last: Option<Journal>,
+    order: Option<ArrivalOrder>,
     printer: Printer,
 }
 
@@ -33,7 +38,10 @@ impl Model for Game {
 
     ghost Value = { GameView };
 
-    ghost view = { λ g. record { course = g.playback.course; last = entries_if g.last } };
+    ghost view = { λ g. record {
+      course = g.playback.course;
+      last = record { order = g.order; journal = entries_if g.last };
+    } };
 
     ghost invariant = { λ g. g.printer ≡ [] };
 }
@@ -49,11 +57,25 @@ pub fn is_end(event: &Event) -> bool
 }
 
 /// The journal of the frame that was closed, if one was, and else the one before it.
-pub fn newest(closed: Option<Journal>, before: Option<Journal>) -> Option<Journal>
-    ensures { entries_if result ≡ games.newest (entries_if closed) (entries_if before) }
+fn newest_journal(closed: Option<Journal>, before: Option<Journal>) -> Option<Journal>
+    ensures { entries_if result ≡ games.newest_journal (entries_if closed) (entries_if before) }
 {
     match closed {
         Some(journal) => Some(journal),
+        None => before,
+    }
+}
+
+/// The order of arrival of the frame that was closed, if one was, and else that of the one before it.
+fn newest_order(
+    closed: &Option<Journal>,
+    order: Option<ArrivalOrder>,
+    before: Option<ArrivalOrder>,
+) -> Option<ArrivalOrder>
+    ensures { result ≡ games.newest_order (entries_if closed.now) order before }
+{
+    match closed {
+        Some(_) => order,
         None => before,
     }
 }
@@ -67,8 +89,8 @@ impl Game {
     ghost use Rattle.arena_engine.specs.Games.{new_game, Plays};
     ghost use Rattle.arena_engine.specs.Stops.{OnWriteFault, OnMemory, IsGameStop};
 
-    /// A game in this arena, before the first event. It takes all memory but that for the packets, the moves and the
-    /// journals of frames.
+    /// A game in this arena, before the first event. It takes all memory but that for the packets, their order, the moves
+    /// and the journals of frames.
     pub fn new(alloc: Global, map: ArenaMap) -> Result<Game, AllocError>
         ensures game { IfOk result (λ game. game ≡ new_game map) }
         ensures rules { OnOk result (IsMap map) }
@@ -76,6 +98,7 @@ impl Game {
         Ok(Game {
             playback: Playback::new(alloc, map)?,
             last: None,
+            order: None,
             printer: Printer::new(alloc)?,
         })
     }
@@ -84,39 +107,50 @@ impl Game {
     pub fn take<R: Threads + Wait + Sync, K: Sink, G: Gate>(
         &mut self,
         host: &Host<R, G>,
+        feeding: Feeding,
         event: Event,
         sink: &mut K,
     ) -> Result<(), Stop>
         requires { IsReady self.old.course event }
-        ensures next { OnOk result (Plays host.now.workers self.old self.new event (λ lines.
+        ensures next { OnOk result (Plays feeding host.now.workers self.old self.new event (λ lines.
             Prints K.taken K.faults K.room sink.old sink.new [] [] (text_of lines))) }
         ensures write_fault { IfErr result (λ stop. OnWriteFault stop
-            (Plays host.now.workers self.old self.new event (λ lines.
+            (Plays feeding host.now.workers self.old self.new event (λ lines.
             FailsIn K.taken K.faults sink.old sink.new (text_of lines)))) }
         ensures sure { IfErr result (λ stop. OnWriteFault stop
-            (Plays host.now.workers self.old self.new event (λ lines. length (text_of lines) ≤ K.room sink.old → ⊥))) }
+            (Plays feeding host.now.workers self.old self.new event (λ lines. length (text_of lines) ≤ K.room sink.old → ⊥))) }
         ensures memory { IfErr result (λ stop. OnMemory stop (sink.new ≡ sink.old)) }
         ensures kept { IfErr result (λ stop. OnMemory stop (self.new.last ≡ self.old.last)) }
         ensures stops { IfErr result IsGameStop }
         ensures later { K.faults sink.old ≤ K.faults sink.new }
     {
         let ends = is_end(&event);
+        let order = arrange_for(host, feeding, &event, &mut self.playback)?;
         let closed = self.playback.take(host, event)?;
-        let printed = print_event(&closed, ends, &self.playback, &mut self.printer, sink);
-        self.last = newest(closed, self.last.take());
+        let printed = print_event(
+            &closed,
+            &order,
+            ends,
+            &self.playback,
+            &mut self.printer,
+            sink,
+        );
+        self.order = newest_order(&closed, order, self.order.take());
+        self.last = newest_journal(closed, self.last.take());
         printed?;
         Ok(())
     }
 
-    /// The journal of the last frame that was run, if one was.
-    pub fn into_journal(self) -> Option<Journal>
-        ensures { entries_if result ≡ self.last }
+    /// The journal and the order of arrival of the last frame that was run, if one was.
+    pub fn into_last(self) -> (Option<Journal>, Option<ArrivalOrder>)
+        ensures { record { order = result.1; journal = entries_if result.0 } ≡ self.last }
     {
         let Game {
             playback: _playback,
             last,
+            order,
             printer: _printer,
         } = self;
-        last
+        (last, order)
     }
 }

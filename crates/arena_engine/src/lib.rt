@@ -19,12 +19,11 @@ use std::sync::Wait;
 use std::thread::Threads;
 pub use summary::MOST_SUMMARY_BYTES;
 
+mod arranging;
 mod bots;
 mod checked;
 mod command;
-mod fed_game;
-mod fed_printing;
-mod feed;
+mod feeding;
 mod game;
 mod laws;
 mod made;

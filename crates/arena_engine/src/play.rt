@@ -1,9 +1,10 @@
-ghost use Rattle.std.specs.Prelude.{◌≡◌, None};
+ghost use Rattle.arena_engine.specs.Feedings.{MayHaveOrder};
 ghost use Rattle.arena_engine.specs.PlayEnds.{PlaysTo};
 ghost use Rattle.arena_engine.specs.Progress.{MayGoOn, PlaysOn};
 ghost use Rattle.arena_engine.specs.Reports.{last_of};
-ghost use Rattle.arena_engine.specs.Texts.{play_texts};
+ghost use Rattle.arena_engine.specs.Texts.{texts_of};
 
+use crate::feeding::Feeding;
 use crate::game::{Game, is_end};
 use crate::played::Played;
 use crate::stop::Stop;
@@ -19,20 +20,22 @@ use std::thread::Threads;
 /// Plays the events of a recording from this one on, of which the reader gives the later ones.
 fn play_events<R: Threads + Wait + Sync, S: Source, K: Sink, G: Gate>(
     host: &Host<R, G>,
+    feeding: Feeding,
     demo: &mut DemoReader,
     game: &mut Game,
     first: Event,
     source: &mut S,
     sink: &mut K,
 ) -> Result<(), Stop>
-    requires { MayGoOn S.Source K.Sink host.now.workers source.old sink.old demo.old game.old first }
-    ensures { PlaysOn S.Source K.Sink host.now.workers source.old source.new sink.old sink.new demo.old game.old first
-        game.new.last result }
+    requires { MayGoOn S.Source K.Sink feeding host.now.workers source.old sink.old demo.old game.old first }
+    ensures plays { PlaysOn S.Source K.Sink feeding host.now.workers source.old source.new sink.old sink.new demo.old
+        game.old first game.new.last result }
+    ensures orders { MayHaveOrder feeding game.old.last.order → MayHaveOrder feeding game.new.last.order }
 {
     let mut event = first;
     'events: loop {
         let is_last = is_end(&event);
-        game.take(host, event, sink)?;
+        game.take(host, feeding, event, sink)?;
         if is_last {
             return Ok(());
         }
@@ -40,16 +43,18 @@ fn play_events<R: Threads + Wait + Sync, S: Source, K: Sink, G: Gate>(
     }
 }
 
-/// Plays a recording from the source, and writes its output to the sink, each frame before the next line is read.
-/// Beside how that ended it gives the journal of the last frame that was run.
+/// Plays a recording from the source whose packets reach the server so, and writes its output to the sink, each frame
+/// before the next line is read. Beside how that ended it gives the journal and the order of arrival of the last frame
+/// that was run.
 pub fn play<R: Threads + Wait + Sync, S: Source, K: Sink, G: Gate>(
     host: &Host<R, G>,
+    feeding: Feeding,
     source: &mut S,
     sink: &mut K,
 ) -> Played
-    ensures played { PlaysTo S.Source K.Sink (play_texts host.now.workers) source.old source.new sink.old sink.new
+    ensures played { PlaysTo S.Source K.Sink (texts_of feeding host.now.workers) source.old source.new sink.old sink.new
         (last_of result) result.ended }
-    ensures orderless { result.order ≡ None }
+    ensures orders { MayHaveOrder feeding result.order }
 {
     let mut demo = match DemoReader::new(host.alloc) {
         Ok(demo) => demo,
@@ -64,6 +69,6 @@ pub fn play<R: Threads + Wait + Sync, S: Source, K: Sink, G: Gate>(
         Ok(game) => game,
         Err(error) => return Played::before_frames(error.into()),
     };
-    let ended = play_events(host, &mut demo, &mut game, first, source, sink);
+    let ended = play_events(host, feeding, &mut demo, &mut game, first, source, sink);
     Played::with_game(game, ended)
 }

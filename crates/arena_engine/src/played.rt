@@ -1,4 +1,3 @@
-use crate::fed_game::FedGame;
 use crate::game::Game;
 use crate::stop::Stop;
 use feed_queue::ArrivalOrder;
@@ -16,15 +15,14 @@ pub struct Played {
 }
 
 impl Played {
-    ghost use Rattle.std.specs.Prelude.{◌≡◌, Err, None};
-    ghost use Rattle.playback.specs.Playbacks.{entries_if};
+    ghost use Rattle.std.specs.Prelude.{◌≡◌, Err};
+    ghost use Rattle.arena_engine.specs.Feedings.{no_last};
     ghost use Rattle.arena_engine.specs.Reports.{last_of};
 
     /// It stopped before there was a game.
     pub fn before_frames(stop: Stop) -> Played
         ensures ended { result.ended ≡ Err stop }
-        ensures last { entries_if result.last ≡ None }
-        ensures order { result.order ≡ None }
+        ensures last { last_of result ≡ no_last }
     {
         Played {
             ended: Err(stop),
@@ -36,22 +34,9 @@ impl Played {
     /// It ended so, with this game.
     pub fn with_game(game: Game, ended: Result<(), Stop>) -> Played
         ensures ended { result.ended ≡ ended }
-        ensures last { entries_if result.last ≡ game.last }
-        ensures order { result.order ≡ None }
-    {
-        Played {
-            ended,
-            last: game.into_journal(),
-            order: None,
-        }
-    }
-
-    /// It ended so, with this game whose packets client threads sent.
-    pub fn with_fed_game(game: FedGame, ended: Result<(), Stop>) -> Played
-        ensures ended { result.ended ≡ ended }
         ensures last { last_of result ≡ game.last }
     {
-        let (order, last) = game.into_last();
+        let (last, order) = game.into_last();
         Played { ended, last, order }
     }
 }

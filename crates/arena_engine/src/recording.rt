@@ -3,7 +3,7 @@ ghost use Rattle.arena_engine.specs.Endings.{Ends};
 ghost use Rattle.arena_engine.specs.Played.{IsPlayed, IsFed};
 ghost use Rattle.arena_engine.specs.Reports.{IsReportOf};
 
-use crate::feed::feed;
+use crate::feeding::Feeding;
 use crate::play::play;
 use crate::played::Played;
 use crate::report::Report;
@@ -47,7 +47,7 @@ pub fn play_recording<R: Threads + Wait + Sync, S: Source, K: Sink, G: Gate>(
     ensures served { result.status ≡ 2 → ⊥ }
     ensures orderless { result.order ≡ None }
 {
-    let played = play(host, source, sink);
+    let played = play(host, Feeding::Recorded, source, sink);
     report_of(host.alloc, played)
 }
 
@@ -61,6 +61,6 @@ pub fn feed_recording<R: Threads + Wait + Sync, S: Source, K: Sink, G: Gate>(
     ensures ends { Ends S.Source K.Sink source.old source.new sink.old sink.new result }
     ensures served { result.status ≡ 2 → ⊥ }
 {
-    let fed = feed(host, source, sink);
-    report_of(host.alloc, fed)
+    let played = play(host, Feeding::Threaded, source, sink);
+    report_of(host.alloc, played)
 }

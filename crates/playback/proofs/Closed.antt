@@ -88,9 +88,10 @@ are_printable t arrivals journal out given =
 -- ---- the frame that is open is run
 
 -- a playback with these parts
-abbrev pub playback_with : ServerView → Bool → List Arrival → FrameOut → PlaybackView
-playback_with server is_open arrivals out = record {
+abbrev pub playback_with : ServerView → Bool → List Arrival → List Arrival → FrameOut → PlaybackView
+playback_with server is_open arrivals closed out = record {
   course = record { server = server; opened = if is_open then Some arrivals else None };
+  closed = closed;
   out = out;
 }
 
@@ -99,17 +100,17 @@ opened-is true arrivals opens = refl
 opened-is false arrivals opens = cc
 
 -- it is closed, where the journal that is given is the one of the run
-pub closes_by : (workers : ℕ) (p : PlaybackView) (server new : ServerView) (is_open : Bool) (arrivals : List Arrival) (before : FrameOut) (journal given : List Entry)
-    → playback_with server is_open arrivals before ≡ p → is_open ≡ true → given ≡ journal → RunsFrame workers server new arrivals journal → Closes workers p.course.server new p.course.opened (Some given)
-closes_by workers p server new is_open arrivals before journal given view opens same runs =
+pub closes_by : (workers : ℕ) (p : PlaybackView) (server new : ServerView) (is_open : Bool) (arrivals closed : List Arrival) (before : FrameOut) (journal given : List Entry)
+    → playback_with server is_open arrivals closed before ≡ p → is_open ≡ true → given ≡ journal → RunsFrame workers server new arrivals journal → Closes workers p.course.server new p.course.opened (Some given)
+closes_by workers p server new is_open arrivals closed before journal given view opens same runs =
     let P : PlaybackView → Type 0 = λ q. Closes workers q.course.server new q.course.opened (Some given) in
     let Q : Option (List Arrival) → Type 0 = λ o. Closes workers server new o (Some given) in
     subst P view (subst Q (sym (opened-is is_open arrivals opens)) (subst (RunsFrame workers server new arrivals) (sym same) runs))
 
 -- and what it gave out is known
-pub given_if : (p : PlaybackView) (server : ServerView) (is_open : Bool) (arrivals : List Arrival) (before out : FrameOut) (journal given : List Entry)
-    → playback_with server is_open arrivals before ≡ p → is_open ≡ true → given ≡ journal → IsGiven server arrivals journal out → IsGivenIf p.course.server p.course.opened (Some given) out
-given_if p server is_open arrivals before out journal given view opens same is =
+pub given_if : (p : PlaybackView) (server : ServerView) (is_open : Bool) (arrivals closed : List Arrival) (before out : FrameOut) (journal given : List Entry)
+    → playback_with server is_open arrivals closed before ≡ p → is_open ≡ true → given ≡ journal → IsGiven server arrivals journal out → IsGivenIf p.course.server p.course.opened (Some given) out
+given_if p server is_open arrivals closed before out journal given view opens same is =
     let P : PlaybackView → Type 0 = λ q. IsGivenIf q.course.server q.course.opened (Some given) out in
     let Q : Option (List Arrival) → Type 0 = λ o. IsGivenIf server o (Some given) out in
     subst P view (subst Q (sym (opened-is is_open arrivals opens)) (subst (λ (j : List Entry). IsGiven server arrivals j out) (sym same) is))

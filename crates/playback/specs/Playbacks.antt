@@ -24,9 +24,11 @@ pub record Course : Type 0 where
 abbrev pub new_course : MapView → Course
 new_course map = record { server = new_server map; opened = None }
 
--- the course, and what the last frame that was closed gave out but for its journal
+-- the course, the packets of the last frame that was closed, in the order in which it was run, and what it gave out but
+-- for its journal
 pub record PlaybackView : Type 0 where
   pub course : Course
+  pub closed : List Arrival
   pub out : FrameOut
 
 -- the entries of a journal, if there is one
@@ -67,6 +69,12 @@ abbrev pub IsGivenIf : ServerView → Option (List Arrival) → Option (List Ent
 IsGivenIf t None closed out = ⊤
 IsGivenIf t (Some arrivals) None out = ⊤
 IsGivenIf t (Some arrivals) (Some journal) out = IsGiven t arrivals journal out
+
+-- these packets are kept where a frame with these was closed
+abbrev pub ArePacketsIf : Option (List Arrival) → Option (List Entry) → List Arrival → Type 0
+ArePacketsIf None closed packets = ⊤
+ArePacketsIf (Some arrivals) None packets = ⊤
+ArePacketsIf (Some arrivals) (Some journal) packets = packets ≡ arrivals
 
 -- ---- an event
 

@@ -1,9 +1,12 @@
+ghost use Rattle.std.specs.Prelude.{◌≡◌, [], length, OnOk};
+ghost use Rattle.packet_read.specs.Orders.{in_order, AreEachOnce};
+
 use crate::host::Host;
 use arena_map::ArenaMap;
 use demo_lines::Event;
 use frame_phases::{FrameOut, Server, run_frame};
 use move_journal::Journal;
-use packet_read::{Arrival, MOST_ARRIVALS};
+use packet_read::{Arrival, ArrivalBytes, MOST_ARRIVALS};
 use shared_moves::Gate;
 use std::alloc::{AllocError, Global};
 use std::marker::Model;
@@ -13,13 +16,15 @@ use std::thread::Threads;
 
 // An event goes to a server at one place, `take`: a recording and a generator are two ways to get events, printing
 // and totals two things done with a closed frame.
-/// A server, what its last frame gave out but for the journal, and the packets of the frame that is open.
+/// A server, what its last frame gave out but for the journal, the packets of the frame that is open, and those of the
+/// last one that was closed.
 #[derive(Drop)]
 pub struct Playback {
     server: Server,
     out: FrameOut,
     is_open: bool,
     arrivals: Vec<Arrival>,
+    closed: Vec<Arrival>,
 }
 
 impl Model for Playback {
@@ -30,18 +35,41 @@ impl Model for Playback {
 
     ghost view = { λ p. record {
       course = record { server = p.server; opened = if p.is_open then Some p.arrivals.items else None };
+      closed = p.closed.items;
       out = p.out;
     } };
 
     ghost invariant = { λ p. ArePrintable p.out };
 }
 
+/// Moves packets into an empty list, in this order.
+fn move_in_order(
+    arrivals: &mut [Arrival],
+    order: &[u32],
+    moved: &mut Vec<Arrival>,
+) -> Result<(), AllocError>
+    requires places { AreEachOnce (length arrivals.old) order.now }
+    requires empty { moved.old.items ≡ [] }
+    ensures { OnOk result (moved.new.items ≡ in_order order.now arrivals.old) }
+{
+    for place in order {
+        let none = Arrival {
+            port: 0,
+            bytes: ArrivalBytes::new(),
+        };
+        let arrival = mem::replace(&mut arrivals[*place as usize], none);
+        moved.push(arrival)?;
+    }
+    Ok(())
+}
+
 impl Playback {
-    ghost use Rattle.std.specs.Prelude.{◌≡◌, Some, None, IfOk, OnOk, OnErr};
+    ghost use Rattle.std.specs.Prelude.{◌≡◌, Some, None, length, option_map, IfSome, IsSomeAnd, IfOk, OnOk, OnErr};
     ghost use Rattle.arena_map.specs.Maps.{IsMap};
     ghost use Rattle.frame_phases.specs.Scores.{score_in};
     ghost use Rattle.playback.specs.Playbacks.{entries_if, ArePrintable, new_course};
-    ghost use Rattle.playback.specs.Playbacks.{Closes, KeepsPacket, IsGivenIf, GoesOn, MayClose, IsReady};
+    ghost use Rattle.packet_read.specs.Orders.{in_order, AreEachOnce};
+    ghost use Rattle.playback.specs.Playbacks.{Closes, KeepsPacket, IsGivenIf, ArePacketsIf, GoesOn, MayClose, IsReady};
 
     /// A server in this arena, before the first event. It takes all memory but that for the packets, the moves and the
     /// journals of frames. The only error is that memory is refused; the map is then gone.
@@ -54,6 +82,7 @@ impl Playback {
             out: FrameOut::new(alloc)?,
             is_open: false,
             arrivals: Vec::new(alloc),
+            closed: Vec::new(alloc),
         })
     }
 
@@ -80,6 +109,39 @@ impl Playback {
         &self.out
     }
 
+    /// The packets of the frame that is open, if one is.
+    pub fn opened(&self) -> Option<&[Arrival]>
+        ensures some { IfSome result (λ sent. self.now.course.opened ≡ Some sent.now) }
+        ensures none { result ≡ None → self.now.course.opened ≡ None }
+    {
+        if self.is_open {
+            return Some(self.arrivals.as_slice());
+        }
+        None
+    }
+
+    /// The packets of the last frame that was closed, in the order in which it was run.
+    pub fn closed(&self) -> &[Arrival]
+        ensures { result.now ≡ self.now.closed }
+    {
+        self.closed.as_slice()
+    }
+
+    /// Puts the packets of the frame that is open into this order, of their places. The only error is that memory is
+    /// refused; what is left of the packets isn't said then.
+    pub fn reorder(&mut self, order: &[u32]) -> Result<(), AllocError>
+        requires { IsSomeAnd self.old.course.opened (λ sent. AreEachOnce (length sent) order.now) }
+        ensures { OnOk result (self.new.course ≡ record {
+          server = self.old.course.server;
+          opened = option_map (in_order order.now) self.old.course.opened;
+        }) }
+    {
+        self.closed.clear();
+        move_in_order(self.arrivals.as_mut_slice(), order, &mut self.closed)?;
+        mem::swap(&mut self.arrivals, &mut self.closed);
+        Ok(())
+    }
+
     /// Runs the frame that is open, and gives its journal. The memory for the next one is taken before it is run.
     fn close<R: Threads + Wait + Sync, G: Gate>(
         &mut self,
@@ -92,6 +154,8 @@ impl Playback {
         ensures opened { OnOk result (self.new.course.opened ≡ None) }
         ensures given { IfOk result (λ journal.
             IsGivenIf self.old.course.server self.old.course.opened (entries_if journal) self.new.out) }
+        ensures packets { IfOk result (λ journal.
+            ArePacketsIf self.old.course.opened (entries_if journal) self.new.closed) }
         ensures same { OnErr result (self.new.course ≡ self.old.course) }
     {
         if !self.is_open {
@@ -108,6 +172,7 @@ impl Playback {
             &mut self.out,
         )?;
         self.is_open = false;
+        mem::swap(&mut self.arrivals, &mut self.closed);
         Ok(Some(mem::replace(&mut self.out.journal, next)))
     }
 
@@ -121,6 +186,8 @@ impl Playback {
             GoesOn host.now.workers self.old.course self.new.course Event.Frame (entries_if journal)) }
         ensures given { IfOk result (λ journal.
             IsGivenIf self.old.course.server self.old.course.opened (entries_if journal) self.new.out) }
+        ensures packets { IfOk result (λ journal.
+            ArePacketsIf self.old.course.opened (entries_if journal) self.new.closed) }
         ensures same { OnErr result (self.new.course ≡ self.old.course) }
     {
         let journal = self.close(host)?;
@@ -134,6 +201,8 @@ impl Playback {
         ensures next { IfOk result (λ journal. KeepsPacket self.old.course self.new.course arrival (entries_if journal)) }
         ensures given { IfOk result (λ journal.
             IsGivenIf self.old.course.server self.old.course.opened (entries_if journal) self.new.out) }
+        ensures packets { IfOk result (λ journal.
+            ArePacketsIf self.old.course.opened (entries_if journal) self.new.closed) }
         ensures same { OnErr result (self.new.course ≡ self.old.course) }
     {
         if self.is_open {
@@ -156,6 +225,8 @@ impl Playback {
             GoesOn host.now.workers self.old.course self.new.course event (entries_if journal)) }
         ensures given { IfOk result (λ journal.
             IsGivenIf self.old.course.server self.old.course.opened (entries_if journal) self.new.out) }
+        ensures packets { IfOk result (λ journal.
+            ArePacketsIf self.old.course.opened (entries_if journal) self.new.closed) }
         ensures same { OnErr result (self.new.course ≡ self.old.course) }
     {
         match event {

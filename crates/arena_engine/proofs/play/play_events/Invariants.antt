@@ -5,7 +5,7 @@ use Rattle.arena_engine.proofs.play.play_events.Given as goal
 -- the events before this one were played, seen from each start
 abbrev pub invariant-events : goal.invariant-events
 invariant-events g l =
-    GoesFrom g.S.Source g.K.Sink l.host.workers l.fn.source l.source l.fn.sink l.sink l.fn.demo l.demo l.fn.game l.game l.fn.first l.event
+    GoesFrom g.S.Source g.K.Sink l.feeding l.host.workers l.fn.source l.source l.fn.sink l.sink l.fn.demo l.demo l.fn.game l.game l.fn.first l.event
 
 abbrev pub decreases-events : goal.decreases-events
 decreases-events g l = lines_left l.demo.reading

@@ -15,4 +15,4 @@ returns-clause-ends g c =
     c.report_of.ensures.report c.play-played.ensures.played
 
 pub returns-clause-orderless : goal.returns-clause-orderless
-returns-clause-orderless g c = c.report_of.ensures.report.order ∙ c.play-played.ensures.orderless
+returns-clause-orderless g c = c.report_of.ensures.report.order ∙ c.play-played.ensures.orders

@@ -16,16 +16,16 @@ invariant_of-self-2 g c =
 pub returns-clause-closed : goal.returns-clause-closed
 returns-clause-closed g c =
     let old = c.self.inside in
-    let view = ap (λ (xs : List Arrival). playback_with old.server old.is_open xs old.out) c.as_slice.ensures.value ∙ c.self.view_is in
-    closes_by c.args.host.now.workers c.args.self.now old.server c.run_frame.new.server old.is_open c.as_slice.result.now old.out c.run_frame.new.out.journal.entries c.replace.result.entries
+    let view = ap (λ (xs : List Arrival). playback_with old.server old.is_open xs old.closed.items old.out) c.as_slice.ensures.value ∙ c.self.view_is in
+    closes_by c.args.host.now.workers c.args.self.now old.server c.run_frame.new.server old.is_open c.as_slice.result.now old.closed.items old.out c.run_frame.new.out.journal.entries c.replace.result.entries
     view c.if-not-self.false (ap (λ (j : JournalView). j.entries) c.replace.ensures.value)
     (record { right = c.in_ok-run_frame.ensures.right; order = c.in_ok-run_frame.ensures.order; few = c.in_ok-run_frame.ensures.few; next = c.in_ok-run_frame.ensures.next })
 
 pub returns-clause-given : goal.returns-clause-given
 returns-clause-given g c =
     let old = c.self.inside in
-    let view = ap (λ (xs : List Arrival). playback_with old.server old.is_open xs old.out) c.as_slice.ensures.value ∙ c.self.view_is in
-    given_if c.args.self.now old.server old.is_open c.as_slice.result.now old.out _ c.run_frame.new.out.journal.entries c.replace.result.entries
+    let view = ap (λ (xs : List Arrival). playback_with old.server old.is_open xs old.closed.items old.out) c.as_slice.ensures.value ∙ c.self.view_is in
+    given_if c.args.self.now old.server old.is_open c.as_slice.result.now old.closed.items old.out _ c.run_frame.new.out.journal.entries c.replace.result.entries
     view c.if-not-self.false (ap (λ (j : JournalView). j.entries) c.replace.ensures.value)
     (record {
       frame_is = c.in_ok-run_frame.ensures.frame;
