@@ -10,7 +10,7 @@ use Rattle.demo_lines.specs.Bytes.{fault_within}
 use Rattle.transcript_check.specs.declared.verdict.Verdict.{Verdict}
 use Rattle.transcript_check.specs.declared.verdict.Verdict.TheVariants.{Right, Wrong}
 use Rattle.transcript_check.specs.Verdicts.{IsJudged, Judges}
-use Rattle.arena_engine.specs.declared.checked.TheConstants.{MOST_CHECKED_FRAMES}
+use Rattle.arena_engine.specs.declared.commands.check.TheConstants.{MOST_CHECKED_FRAMES}
 use Rattle.arena_engine.specs.declared.report.Report.{Report}
 use Rattle.arena_engine.specs.declared.summary.TheConstants.{MOST_SUMMARY_BYTES}
 use Rattle.arena_engine.specs.Checked.{IsChecked}

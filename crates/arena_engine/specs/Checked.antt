@@ -10,7 +10,7 @@ use Rattle.demo_lines.specs.Known.{start_within}
 use Rattle.transcript_check.specs.declared.verdict.Verdict.TheVariants.{Right, Wrong}
 use Rattle.transcript_check.specs.Looked.{TakesOutput, TakesFront, ReadsTranscript}
 use Rattle.transcript_check.specs.Verdicts.{IsJudged}
-use Rattle.arena_engine.specs.declared.checked.TheConstants.{MOST_CHECKED_FRAMES}
+use Rattle.arena_engine.specs.declared.commands.check.TheConstants.{MOST_CHECKED_FRAMES}
 use Rattle.arena_engine.specs.declared.report.Report.{Report}
 use Rattle.arena_engine.specs.declared.summary.TheConstants.{MOST_SUMMARY_BYTES}
 use Rattle.arena_engine.specs.Endings.{IsOrMemory}

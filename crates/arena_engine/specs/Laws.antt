@@ -1,6 +1,6 @@
 -- The limits of the commands, in numbers.
 use Rattle.std.specs.Prelude.{◌≡◌}
-use Rattle.arena_engine.specs.declared.checked.TheConstants.{MOST_CHECKED_FRAMES}
+use Rattle.arena_engine.specs.declared.commands.check.TheConstants.{MOST_CHECKED_FRAMES}
 use Rattle.arena_engine.specs.declared.summary.TheConstants.{MOST_SUMMARY_BYTES}
 
 -- `check` reads recordings of at most 2,000 frames, and the line of a match has at most 300 bytes

@@ -9,8 +9,8 @@ use Rattle.demo_lines.specs.declared.demo_stop.DemoStop.{DemoStop}
 use Rattle.demo_lines.specs.declared.demo_stop.DemoStop.TheVariants.{Refused, ReadFault, NoMemory}
 use Rattle.bot_ways.specs.declared.plan_stop.PlanStop.{PlanStop}
 use Rattle.bot_ways.specs.declared.plan_stop.PlanStop.TheVariants as plan_stop
-use Rattle.arena_engine.specs.declared.bots.Ways.{Ways}
-use Rattle.arena_engine.specs.declared.bots.Ways.TheVariants.{Found, NoSpawn, NoWalk}
+use Rattle.arena_engine.specs.declared.commands.bots.Ways.{Ways}
+use Rattle.arena_engine.specs.declared.commands.bots.Ways.TheVariants.{Found, NoSpawn, NoWalk}
 use Rattle.arena_engine.specs.Output.{Writes, ReadsToEnd, ReadsToRefusal}
 use Rattle.arena_engine.specs.Planned.{ShowsWay, ShowsNoWay, ShowsWays, WritesPart, HasRoomForWays}
 

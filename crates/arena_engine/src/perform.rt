@@ -4,12 +4,12 @@ ghost use Rattle.arena_engine.specs.Endings.{Ends};
 ghost use Rattle.arena_engine.specs.Served.{IsServed, HasNoOrder};
 ghost use Rattle.move_phase.specs.Serving.{AreWorkers};
 
-use crate::bots::plan_recording;
-use crate::checked::check_transcript;
 use crate::command::Command;
-use crate::made::{write_made, write_resent};
-use crate::matched::play_and_sum;
-use crate::recording::{feed_recording, play_recording};
+use crate::commands::bots::plan_recording;
+use crate::commands::check::check_transcript;
+use crate::commands::make::{write_made, write_resent};
+use crate::commands::match_seed::play_and_sum;
+use crate::commands::play::{feed_recording, play_recording};
 use crate::report::Report;
 use crate::status::Status;
 use edge_io::{Sink, Source};

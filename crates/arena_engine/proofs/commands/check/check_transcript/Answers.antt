@@ -1,5 +1,5 @@
 use Rattle.arena_engine.proofs.Judging.{right-checked, wrong-checked}
-use Rattle.arena_engine.proofs.checked.check_transcript.Goals as goal
+use Rattle.arena_engine.proofs.commands.check.check_transcript.Goals as goal
 
 pub returns-in-Ok-Right-clause-checked : goal.returns-in-Ok-Right-clause-checked
 returns-in-Ok-Right-clause-checked g c =

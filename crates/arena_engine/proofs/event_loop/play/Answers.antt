@@ -5,7 +5,7 @@ use Rattle.arena_engine.specs.Games.{GameView}
 use Rattle.arena_engine.specs.Texts.{texts_of}
 use Rattle.arena_engine.proofs.FedTexts.{hold_at_first}
 use Rattle.arena_engine.proofs.Ended.{no_memory_at_first, stopped_at_first, first_is_next, none_has_order, ends_same}
-use Rattle.arena_engine.proofs.play.play.Goals as goal
+use Rattle.arena_engine.proofs.event_loop.play.Goals as goal
 
 pub returns-in-Err-clause-played : goal.returns-in-Err-clause-played
 returns-in-Err-clause-played g c =

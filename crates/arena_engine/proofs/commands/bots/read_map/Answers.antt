@@ -1,7 +1,7 @@
 use Rattle.std.proofs.Common.{Err, sym, ap, ◌∙◌}
 use Rattle.std.proofs.lemmas.Result.{err_from_is_err_and}
 use Rattle.arena_engine.proofs.MapRead.{begun, goes_on, gives_map, gives_stop}
-use Rattle.arena_engine.proofs.bots.read_map.Goals as goal
+use Rattle.arena_engine.proofs.commands.bots.read_map.Goals as goal
 
 pub events-init : goal.events-init
 events-init g c = begun g.S.Source c.args.source.now c.in_ok-demo.demo c.in_ok-demo.ensures

@@ -1,6 +1,6 @@
 use Rattle.demo_lines.specs.Recording.{lines_left}
 use Rattle.arena_engine.proofs.Ended.{GoesFrom}
-use Rattle.arena_engine.proofs.play.play_events.Given as goal
+use Rattle.arena_engine.proofs.event_loop.play_events.Given as goal
 
 -- the events before this one were played, seen from each start
 abbrev pub invariant-events : goal.invariant-events

@@ -3,7 +3,7 @@ use Rattle.std.proofs.lemmas.Result.{err_from_is_err_and}
 use Rattle.bot_ways.specs.PlanTexts.{least_line, plan_text}
 use Rattle.arena_engine.specs.Planned.{ShowsNoWay}
 use Rattle.arena_engine.proofs.WaysReported.{shows-way, empty-way, some-way, ways-cut}
-use Rattle.arena_engine.proofs.bots.write_ways.Goals as goal
+use Rattle.arena_engine.proofs.commands.bots.write_ways.Goals as goal
 
 pub returns-in_err-write_least-clause-err : goal.returns-in_err-write_least-clause-err
 returns-in_err-write_least-clause-err g c =

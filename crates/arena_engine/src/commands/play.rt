@@ -3,8 +3,8 @@ ghost use Rattle.arena_engine.specs.Endings.{Ends};
 ghost use Rattle.arena_engine.specs.Played.{IsPlayed, IsFed};
 ghost use Rattle.arena_engine.specs.Reports.{IsReportOf};
 
+use crate::event_loop::play;
 use crate::feeding::Feeding;
-use crate::play::play;
 use crate::played::Played;
 use crate::report::Report;
 use crate::status::Status;

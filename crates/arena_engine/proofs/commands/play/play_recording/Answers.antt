@@ -2,7 +2,7 @@ use Rattle.std.proofs.Common.{◌∙◌}
 use Rattle.arena_engine.specs.Texts.{play_texts}
 use Rattle.arena_engine.proofs.Taken.{play_texts_are_sound}
 use Rattle.arena_engine.proofs.Reported.{played_reported, played_ends}
-use Rattle.arena_engine.proofs.recording.play_recording.Goals as goal
+use Rattle.arena_engine.proofs.commands.play.play_recording.Goals as goal
 
 pub returns-clause-played : goal.returns-clause-played
 returns-clause-played g c =

@@ -3,7 +3,7 @@ use Rattle.std.specs.Io.KnownBytes.{Appends}
 use Rattle.edge_io.specs.Writes.{AppendsPart}
 use Rattle.arena_engine.specs.Making.{ArePlayed, line_of_match}
 use Rattle.arena_engine.proofs.Summing.{line_is, are_played}
-use Rattle.arena_engine.proofs.matched.play_and_sum.Goals as goal
+use Rattle.arena_engine.proofs.commands.match_seed.play_and_sum.Goals as goal
 
 pub returns-clause-matched : goal.returns-clause-matched
 returns-clause-matched g c =

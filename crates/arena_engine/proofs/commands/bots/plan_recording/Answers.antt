@@ -1,5 +1,5 @@
 use Rattle.arena_engine.proofs.WaysReported.{way_planned, no_spawn_planned, no_walk_planned, cut_planned}
-use Rattle.arena_engine.proofs.bots.plan_recording.Goals as goal
+use Rattle.arena_engine.proofs.commands.bots.plan_recording.Goals as goal
 
 pub returns-in-Ok-Found-clause-planned : goal.returns-in-Ok-Found-clause-planned
 returns-in-Ok-Found-clause-planned g c =

@@ -1,6 +1,6 @@
 use Rattle.demo_lines.specs.Recording.{lines_left}
 use Rattle.arena_engine.proofs.MapRead.{ReadsOn}
-use Rattle.arena_engine.proofs.bots.read_map.Given as goal
+use Rattle.arena_engine.proofs.commands.bots.read_map.Given as goal
 
 -- the recording goes on after what was read
 abbrev pub invariant-events : goal.invariant-events

@@ -1,7 +1,7 @@
 use Rattle.arena_engine.specs.Texts.{feed_texts}
 use Rattle.arena_engine.proofs.Taken.{feed_texts_are_sound}
 use Rattle.arena_engine.proofs.Reported.{played_reported, played_ends}
-use Rattle.arena_engine.proofs.recording.feed_recording.Goals as goal
+use Rattle.arena_engine.proofs.commands.play.feed_recording.Goals as goal
 
 pub returns-clause-fed : goal.returns-clause-fed
 returns-clause-fed g c =

@@ -3,7 +3,7 @@ use Rattle.std.proofs.lemmas.Result.{err_from_is_err_and}
 use Rattle.arena_engine.specs.StopOf.{stop_of}
 use Rattle.arena_engine.specs.Texts.{texts_of}
 use Rattle.arena_engine.proofs.Ended.{game_stopped, all_played, reader_stopped, goes_further, ready_next, open_reader, ends_same, order_of_next, order_when_stopped}
-use Rattle.arena_engine.proofs.play.play_events.Goals as goal
+use Rattle.arena_engine.proofs.event_loop.play_events.Goals as goal
 
 pub events-init : goal.events-init
 events-init g c = record { may = c.requires; each = λ first_source first_sink begun. begun; orders = λ before. before }

@@ -1,0 +1,7 @@
+//! What each command of `serve` does, a file a command.
+
+pub(crate) mod bots;
+pub(crate) mod check;
+pub(crate) mod make;
+pub(crate) mod match_seed;
+pub(crate) mod play;
