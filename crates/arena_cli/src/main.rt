@@ -10,7 +10,7 @@ ghost use Rattle.std.specs.Process.{exit_status};
 use answer::answer;
 use arena_engine::Report;
 use edge_io::{StdSink, StdSource};
-use notice::Notice;
+use notice::notice_of;
 use shared_moves::NoGate;
 use std::env;
 use std::process::ExitCode;
@@ -41,9 +41,9 @@ fn main(rt: HostRuntime) -> ExitCode {
         &mut StdSink::new(rt.stdout()),
         &NoGate,
     );
-    if report.status != 0 {
+    if let Some(notice) = notice_of(&report) {
         // Where nobody reads standard error, the exit status is all there is.
-        let _ = eprintln!(rt; "{}", Notice(&report));
+        let _ = eprintln!(rt; "{notice}");
     }
     exit_of(&report)
 }
