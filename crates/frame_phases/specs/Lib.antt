@@ -20,5 +20,6 @@ pub mod Servers
 pub mod Finishes
 pub mod Scores
 pub mod FrameOuts
+pub mod Runs
 pub mod ReplyLoans
 pub mod Laws

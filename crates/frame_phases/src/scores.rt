@@ -1,5 +1,5 @@
 ghost use Rattle.std.specs.Prelude.{◌≡◌, ◌<◌, ◌≤◌, ◌^◌};
-ghost use Rattle.world_tree.specs.Worlds.{record_of};
+ghost use Rattle.world_tree.specs.Worlds.{record_of, IsLinked};
 ghost use Rattle.frame_phases.specs.Scores.{score_at, score_in};
 
 use entity_recs::SLOTS;
@@ -10,6 +10,7 @@ fn score_in_slot(world: &World, slot: usize) -> u64
     requires { slot ≤ 64 }
     ensures score { result ≡ score_at (record_of world.now slot) }
     ensures bound { result < 2 ^ 32 }
+    ensures linked { IsLinked world.now }
 {
     world
         .get(slot as u16)
@@ -20,8 +21,6 @@ fn score_in_slot(world: &World, slot: usize) -> u64
 pub fn score_of(world: &World) -> u64
     ensures { result ≡ score_in world.now.records }
 {
-    // To ask for the tree is to know that the world is linked: each player has the id of its slot.
-    let _tree = world.tree();
     let mut score = 0;
     for slot in 0..SLOTS {
         score += score_in_slot(world, slot);

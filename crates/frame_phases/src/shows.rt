@@ -14,7 +14,8 @@ use world_tree::World;
 /// Puts this slot last, if it is live.
 fn list_slot(world: &World, slot: u8, slots: &mut SlotList)
     requires { length slots.old < 64 }
-    ensures { slots.new ≡ slots.old ++ map_list (λ me. me.id) (option_to_list (record_of world.now slot)) }
+    ensures slots { slots.new ≡ slots.old ++ map_list (λ me. me.id) (option_to_list (record_of world.now slot)) }
+    ensures linked { IsLinked world.now }
 {
     let Some(_player) = world.get(u16::from(slot)) else {
         return;
@@ -29,8 +30,6 @@ fn list_slots(world: &World, slots: &mut SlotList)
     ensures slots { slots.new ≡ slots_of world.now.records }
     ensures linked { IsLinked world.now }
 {
-    // To ask for the tree is to know that the world is linked: each player has the id of its slot.
-    let _tree = world.tree();
     for slot in 0..SLOTS as u8 {
         list_slot(world, slot, slots);
     }
