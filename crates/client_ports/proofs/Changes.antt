@@ -13,7 +13,7 @@ use Rattle.client_ports.specs.declared.client.Client.{Client}
 use Rattle.client_ports.specs.declared.spawns.JoinPoint.{JoinPoint}
 use Rattle.client_ports.specs.Clients.{client_at, port_of, ports_of}
 use Rattle.client_ports.specs.States.{State}
-use Rattle.client_ports.specs.Answers.{join_answer}
+use Rattle.client_ports.specs.FirstRefusals.{join_answer}
 use Rattle.client_ports.proofs.Facts.{same_Ok, got}
 use Rattle.client_ports.proofs.Slots.{port_at-client, port_of-none}
 

@@ -35,7 +35,7 @@ use Rattle.client_ports.specs.Clients.{client, client_at, port_of, ports_of, liv
 use Rattle.client_ports.specs.States.{State, IsState}
 use Rattle.packet_read.specs.Commands.{commands_of}
 use Rattle.client_ports.specs.NewMoves.{new_among, numbers_in, last_in}
-use Rattle.client_ports.specs.Answers.{free_spawn, join_point, join_point_in, join_answer, live_slot_leaving, leave_by, leave_answer, with_new_moves, move_by, move_answer}
+use Rattle.client_ports.specs.FirstRefusals.{free_spawn, join_point, join_point_in, join_answer, live_slot_leaving, leave_by, leave_answer, with_new_moves, move_by, move_answer}
 use Rattle.client_ports.specs.Receiving.{Receiving, after_join, after_leave, after_move, after_packet, after_arrival, command_in}
 use Rattle.client_ports.specs.Laws.{IsClear, AreAccepted, AcceptedNumbersRise, IsAcceptedLeave, IsRefused, IsJoined, IsLeave, AreCommandsOf, IsMove}
 use Rattle.client_ports.proofs.NewMoves.{Rise, new-rise, commands-rise}

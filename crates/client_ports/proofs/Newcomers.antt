@@ -8,7 +8,7 @@ use Rattle.client_ports.specs.declared.refusal.Refusal.{Refusal}
 use Rattle.client_ports.specs.declared.spawns.JoinPoint.{JoinPoint}
 use Rattle.client_ports.specs.Clients.{new_client}
 use Rattle.client_ports.specs.States.{State, IsServerState, newcomer, with_newcomer}
-use Rattle.client_ports.specs.Answers.{join_answer}
+use Rattle.client_ports.specs.FirstRefusals.{join_answer}
 use Rattle.client_ports.specs.Receiving.{Receiving, after_join, after_packet, after_arrival}
 use Rattle.client_ports.specs.Newcomers.{IsNewPlayer, IsNewClient, HasNewcomer, JoinsAddNewcomers}
 use Rattle.client_ports.proofs.Facts.{slot_least}

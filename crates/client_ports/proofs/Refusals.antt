@@ -36,7 +36,7 @@ use Rattle.client_ports.specs.declared.refusal.Refusal.TheVariants as refusal
 use Rattle.client_ports.specs.declared.spawns.JoinPoint.{JoinPoint}
 use Rattle.client_ports.specs.Clients.{client_at, port_of, ports_of, live_slot, live_at, live_with, AreClients}
 use Rattle.client_ports.specs.States.{State, IsState}
-use Rattle.client_ports.specs.Answers.{free_spawn, join_point, join_point_in, join_answer, live_slot_leaving, leave_by, leave_answer, move_by, move_answer}
+use Rattle.client_ports.specs.FirstRefusals.{free_spawn, join_point, join_point_in, join_answer, live_slot_leaving, leave_by, leave_answer, move_by, move_answer}
 use Rattle.client_ports.specs.NewMoves.{new_among}
 use Rattle.client_ports.specs.Receiving.{Receiving, after_refusal, after_join, after_leave, after_move, after_packet, after_arrival}
 use Rattle.client_ports.specs.Refusals.{OverlapsALiveSolid, HasNoRoom, is_move, is_leave_or_move, IsClientOf, FindsNoRoom, IsMoveOf, RefusalHolds}

@@ -19,7 +19,7 @@ use Rattle.client_ports.specs.declared.client.LiveSlot.{LiveSlot}
 use Rattle.client_ports.specs.declared.spawns.JoinPoint.{JoinPoint}
 use Rattle.client_ports.specs.Clients.{client, client_at, port_of, ports_of, live_slot, new_client, with_client, AreClients, IsUpdate}
 use Rattle.client_ports.specs.States.{State, state_of, with_newcomer, with_update, newcomer, IsServerState}
-use Rattle.client_ports.specs.Answers.{join_answer}
+use Rattle.client_ports.specs.FirstRefusals.{join_answer}
 use Rattle.client_ports.specs.Finishing.{finished_client, records_after, finished_at, finished_up_to, finished}
 use Rattle.client_ports.specs.Receiving.{Receiving, after_arrival, after_arrivals, received}
 use Rattle.client_ports.specs.Laws.{IsClear, AreAccepted, IsAcceptedLeave, IsRefused, IsJoined, IsLeave, IsMove}

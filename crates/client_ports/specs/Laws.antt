@@ -24,7 +24,7 @@ use Rattle.client_ports.specs.States.{State, IsState, with_newcomer, with_update
 use Rattle.client_ports.specs.Lists.{with_join, with_moves, with_refusal}
 use Rattle.packet_read.specs.Commands.{commands_of}
 use Rattle.client_ports.specs.NewMoves.{new_among, numbers_in, last_in, RiseFrom}
-use Rattle.client_ports.specs.Answers.{join_answer, leave_answer, with_new_moves, move_answer}
+use Rattle.client_ports.specs.FirstRefusals.{join_answer, leave_answer, with_new_moves, move_answer}
 use Rattle.client_ports.specs.Receiving.{Receiving, after_refusal, after_arrival}
 use Rattle.client_ports.specs.Refusals.{HasNoRoom, RefusalHolds}
 use Rattle.client_ports.specs.Finishing.{is_leaver, finished_client, finished}

@@ -20,7 +20,7 @@ pub mod States
 pub mod Rooms
 pub mod Lists
 pub mod NewMoves
-pub mod Answers
+pub mod FirstRefusals
 pub mod Receiving
 pub mod Finishing
 pub mod Linking

@@ -13,7 +13,7 @@ use Rattle.client_ports.specs.declared.client.Client.{Client}
 use Rattle.client_ports.specs.declared.spawns.JoinPoint.{JoinPoint}
 use Rattle.client_ports.specs.Clients.{client_at}
 use Rattle.client_ports.specs.States.{State, IsServerState}
-use Rattle.client_ports.specs.Answers.{join_answer}
+use Rattle.client_ports.specs.FirstRefusals.{join_answer}
 use Rattle.client_ports.specs.Receiving.{Receiving, after_arrival}
 
 -- the record of a player that has just joined in this slot, with its origin here: it is 8,192 wide and 14,336 high, at

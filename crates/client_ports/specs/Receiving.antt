@@ -16,7 +16,7 @@ use Rattle.client_ports.specs.declared.spawns.JoinPoint.{JoinPoint}
 use Rattle.client_ports.specs.States.{State, with_newcomer, with_update}
 use Rattle.client_ports.specs.Lists.{Lists, no_lists, with_moves, with_join, with_refusal}
 use Rattle.client_ports.specs.NewMoves.{new_among}
-use Rattle.client_ports.specs.Answers.{join_answer, leave_answer, with_new_moves, move_answer}
+use Rattle.client_ports.specs.FirstRefusals.{join_answer, leave_answer, with_new_moves, move_answer}
 
 -- what the packets have come to so far: the state, and the lists
 pub record Receiving : Type 0 where

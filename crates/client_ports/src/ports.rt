@@ -3,7 +3,7 @@ ghost use Rattle.client_ports.specs.Clients as clients;
 ghost use Rattle.client_ports.specs.Clients.{no_clients, client_at, ports_of, live_slot, new_client, with_client};
 ghost use Rattle.client_ports.specs.Clients.{AreClients, IsUpdate, IsSlotFor};
 ghost use Rattle.client_ports.specs.NewMoves.{new_among};
-ghost use Rattle.client_ports.specs.Answers as answers;
+ghost use Rattle.client_ports.specs.FirstRefusals as answers;
 ghost use Rattle.entity_slots.specs.FreeSlots as places;
 
 use crate::client::{Client, LiveSlot};

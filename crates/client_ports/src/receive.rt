@@ -11,7 +11,7 @@ ghost use Rattle.client_ports.specs.States as states;
 ghost use Rattle.client_ports.specs.States.{state_of, HaveSameLive, IsState};
 ghost use Rattle.client_ports.specs.Lists.{no_lists, with_moves, received_view, HasRoom, IsRoomFor};
 ghost use Rattle.client_ports.specs.NewMoves.{new_among, TakesItsTime};
-ghost use Rattle.client_ports.specs.Answers as answers;
+ghost use Rattle.client_ports.specs.FirstRefusals as answers;
 ghost use Rattle.client_ports.specs.Clients.{IsSlotFor};
 ghost use Rattle.client_ports.specs.Linking.{IsWorldAfter, players_of};
 ghost use Rattle.client_ports.specs.Receiving as receiving;

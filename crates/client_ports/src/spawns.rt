@@ -1,6 +1,6 @@
 ghost use Rattle.std.specs.Prelude.{◌≡◌, IfSome};
 ghost use Rattle.arena_map.specs.Maps.{solids_of, IsSpawn};
-ghost use Rattle.client_ports.specs.Answers as answers;
+ghost use Rattle.client_ports.specs.FirstRefusals as answers;
 
 use arena_geo::Vec3;
 use arena_map::ArenaMap;

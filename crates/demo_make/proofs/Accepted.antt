@@ -20,8 +20,8 @@ use Rattle.client_ports.specs.Clients.{client, client_at, port_of, ports_of, liv
 use Rattle.client_ports.specs.States.{State, state_of, with_newcomer, with_update}
 use Rattle.client_ports.specs.Lists.{no_lists, with_join, with_moves}
 use Rattle.client_ports.specs.NewMoves.{new_among}
-use Rattle.client_ports.specs.Answers.{move_answer}
-use Rattle.client_ports.specs.Answers as answers
+use Rattle.client_ports.specs.FirstRefusals.{move_answer}
+use Rattle.client_ports.specs.FirstRefusals as answers
 use Rattle.client_ports.specs.Receiving.{Receiving, receiving_of, after_join, after_move, after_packet, after_arrival, after_arrivals, command_in, received}
 use Rattle.client_ports.specs.Finishing.{finished_client, finished_up_to, finished}
 use Rattle.client_ports.proofs.Slots.{port_at-client, read-set}

@@ -24,7 +24,7 @@ use Rattle.world_tree.specs.Walks.{is_in_the_way}
 use Rattle.world_tree.proofs.Found.{in_the_way-is}
 use Rattle.client_ports.specs.Clients.{client, client_at, port_of, ports_of, new_client}
 use Rattle.client_ports.specs.States.{State, newcomer, with_newcomer}
-use Rattle.client_ports.specs.Answers.{join_point, free_spawn, join_answer}
+use Rattle.client_ports.specs.FirstRefusals.{join_point, free_spawn, join_answer}
 use Rattle.client_ports.proofs.Slots.{port_at-client, read-set}
 use Rattle.demo_make.specs.GeneratedMap.{generated_map, spawn_at}
 use Rattle.demo_make.specs.Accepting.{IsClearOfSpawns}

@@ -21,7 +21,7 @@ use Rattle.client_ports.specs.Clients.{client, client_at, port_of, ports_of, liv
 use Rattle.client_ports.specs.States.{State, state_of, with_update}
 use Rattle.client_ports.specs.Lists.{no_lists, with_moves}
 use Rattle.client_ports.specs.NewMoves.{new_among}
-use Rattle.client_ports.specs.Answers.{move_answer, new_answer, with_new_moves}
+use Rattle.client_ports.specs.FirstRefusals.{move_answer, new_answer, with_new_moves}
 use Rattle.client_ports.specs.Receiving.{Receiving, receiving_of, after_move, after_packet, after_arrival, after_arrivals, command_in, received}
 use Rattle.client_ports.specs.Finishing.{finished_client, finished}
 use Rattle.client_ports.proofs.Slots.{port_at-client, read-set}

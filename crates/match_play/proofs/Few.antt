@@ -16,7 +16,7 @@ use Rattle.client_ports.specs.declared.received.Refused.{Refused}
 use Rattle.client_ports.specs.declared.refusal.Refusal.{Refusal}
 use Rattle.client_ports.specs.declared.refusal.Refusal.TheVariants as refusal
 use Rattle.client_ports.specs.declared.spawns.JoinPoint.{JoinPoint}
-use Rattle.client_ports.specs.Answers.{join_answer, leave_answer, move_answer}
+use Rattle.client_ports.specs.FirstRefusals.{join_answer, leave_answer, move_answer}
 use Rattle.client_ports.specs.States.{State}
 use Rattle.client_ports.specs.Lists.{Lists, no_lists}
 use Rattle.client_ports.specs.Receiving.{Receiving, receiving_of, after_join, after_leave, after_move, after_packet, after_arrival, after_arrivals, received}

@@ -18,7 +18,7 @@ use Rattle.client_ports.specs.declared.client.LiveSlot.{LiveSlot}
 use Rattle.client_ports.specs.declared.refusal.Refusal.{Refusal}
 use Rattle.client_ports.specs.declared.spawns.JoinPoint.{JoinPoint}
 use Rattle.client_ports.specs.NewMoves.{new_among}
-use Rattle.client_ports.specs.Answers.{join_answer, leave_answer, move_answer}
+use Rattle.client_ports.specs.FirstRefusals.{join_answer, leave_answer, move_answer}
 use Rattle.client_ports.specs.States.{State}
 use Rattle.client_ports.specs.Receiving.{Receiving, command_in, after_join, after_leave, after_move, after_packet, after_arrival, after_arrivals, received}
 use Rattle.plain_server.specs.Moving.{HasSmallNumber}

@@ -1,6 +1,6 @@
 use Rattle.std.proofs.Common.{◌≡◌, drop}
 use Rattle.arena_map.specs.Maps.{solids_of}
-use Rattle.client_ports.specs.Answers.{free_spawn}
+use Rattle.client_ports.specs.FirstRefusals.{free_spawn}
 use Rattle.client_ports.proofs.spawns.free_spawn.Given as goal
 
 -- the first free spawn is among those that are left

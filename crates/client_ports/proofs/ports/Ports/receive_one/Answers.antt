@@ -8,7 +8,7 @@ use Rattle.packet_read.specs.Reading.{reading}
 use Rattle.packet_read.specs.Spelling.{IsAllowedMoves}
 use Rattle.client_ports.specs.States.{state_of}
 use Rattle.packet_read.specs.Commands.{commands_of}
-use Rattle.client_ports.specs.Answers.{move_answer}
+use Rattle.client_ports.specs.FirstRefusals.{move_answer}
 use Rattle.client_ports.specs.NewMoves.{new_among, TakesItsTime}
 use Rattle.client_ports.specs.Receiving.{Receiving, receiving_of, after_packet, after_commands}
 use Rattle.client_ports.proofs.NewMoves.{steps-time}
