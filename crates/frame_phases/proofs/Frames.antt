@@ -28,8 +28,7 @@ use Rattle.plain_server.specs.Moving.{HasLivePlayer}
 use Rattle.plain_server.specs.Frames.{state_after_tick, received_in, moved_by}
 use Rattle.client_ports.proofs.Short.{moves_are_few}
 use Rattle.plain_server.proofs.Frames.{received_is, moved_by_is, state_after_is}
-use Rattle.plain_server.specs.Takers.{IsInState}
-use Rattle.frame_phases.specs.Runs.{HasItemsTaken}
+use Rattle.plain_server.specs.Takers.{HasOneTaker, HasItemsAway, IsInState}
 use Rattle.plain_server.proofs.Takers.{one_taker, returns_later}
 
 pub is_received : (map : MapView) (frame : ℕ) (state : State) (arrivals : List Arrival) (r : Receiving) → IsMap map → IsServerState map state → r ≡ received_in map frame state arrivals
@@ -98,7 +97,8 @@ pub record IsFrameOf (t : ServerView) (workers : ℕ) (arrivals : List Arrival) 
   pub finished : IsFinished t.map t.frames workers (received_in t.map t.frames t.state arrivals) next journal slots replies
   pub next_is : server_view t.map next (t.frames + 1) ≡ server_after t arrivals journal
   pub fits : IsServerState t.map next
-  pub items : HasItemsTaken t journal next.records
+  pub once : HasOneTaker t.map journal
+  pub away : HasItemsAway t.map t.frames journal next.records
   pub few : length journal ≤ 512
 
 -- a merge of moves has an entry for each of them
@@ -123,11 +123,9 @@ frame_of t workers arrivals r next journal slots replies is r_is done =
       finished = frame;
       next_is = ap (λ (s : State). server_view t.map s (t.frames + 1)) frame.next_is;
       fits = subst (IsServerState t.map) (sym frame.next_is) (state_after_is t.map q journal is.is_map got.pass);
-      items = record {
-        one_taker = one_taker t.map t.frames t.state arrivals journal is.is_map is.fits frame.right;
-        away = λ place id delay has delay_is.
-            subst (λ (s : State). IsInState s.records id (t.frames + delay)) (sym frame.next_is) (returns_later t.map t.frames t.state arrivals journal is.is_map is.fits frame.right place id delay has delay_is);
-      };
+      once = one_taker t.map t.frames t.state arrivals journal is.is_map is.fits frame.right;
+      away = λ place id delay has delay_is.
+          subst (λ (s : State). IsInState s.records id (t.frames + delay)) (sym frame.next_is) (returns_later t.map t.frames t.state arrivals journal is.is_map is.fits frame.right place id delay has delay_is);
       few = omega (arith, got.few, entries_of_merge journal q.lists.moves got.pass.apart frame.right.merge);
     }
 

@@ -4,7 +4,6 @@ use Rattle.entity_recs.specs.declared.effect.Entry.{Entry}
 use Rattle.move_journal.specs.Merges.{IsInOrder}
 use Rattle.arena_map.specs.Maps.{MapView, IsMap}
 use Rattle.arena_actions.specs.MapActions.{map_in}
-use Rattle.arena_actions.specs.declared.map_action.MapAction.{MapAction}
 use Rattle.client_ports.specs.States.{State}
 use Rattle.client_ports.specs.Receiving.{Receiving}
 use Rattle.world_tree.specs.Worlds.{WorldView}
@@ -12,7 +11,6 @@ use Rattle.plain_server.specs.Entries.{IsReception}
 use Rattle.plain_server.specs.Frames.{moved_by, state_after, IsRightAfter}
 use Rattle.plain_server.specs.Replies.{slots_of, replies_of}
 use Rattle.move_phase.specs.Starting.{StartedView, AreStarted}
-use Rattle.frame_phases.specs.declared.phases.States.{States}
 
 -- what a receive pass leaves for the moves: a reception, and at most 8 moves for each of 64 slots
 pub record IsReceived (map : MapView) (r : Receiving) : Type 0 where
@@ -24,17 +22,6 @@ pub record IsBegun (started : StartedView) (world : WorldView) (r : Receiving) :
   pub is_map : IsMap (map_in started.action)
   pub got : IsReceived (map_in started.action) r
   pub moves : AreStarted world r.lists.moves started
-
--- the moves that are started are of this action, for so many workers
-pub record IsStartedFor (started : StartedView) (action : MapAction) (workers : ℕ) : Type 0 where
-  pub action_is : started.action ≡ action
-  pub workers_are : started.workers ≡ workers
-
--- the state and the number of frames are as before, and what the frame works on has the tree of the state
-pub record KeepsState (old new : States) : Type 0 where
-  pub state : new.state ≡ old.state
-  pub frames : new.frames ≡ old.frames
-  pub tree : new.next.world.tree ≡ new.state.world.tree
 
 -- a frame with this number was finished after these packets were received: its journal is right, with one worker has
 -- the moves in the order of arrival, the slots and the replies are those after the moves, and the state is the next one

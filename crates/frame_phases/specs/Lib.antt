@@ -20,6 +20,5 @@ pub mod Servers
 pub mod Finishes
 pub mod Scores
 pub mod FrameOuts
-pub mod Runs
 pub mod ReplyLoans
 pub mod Laws

@@ -10,7 +10,7 @@ ghost use Rattle.move_phase.specs.Serving.{AreWorkers};
 ghost use Rattle.packet_read.specs.declared.arrival.TheConstants.{MOST_ARRIVALS};
 ghost use Rattle.arena_map.specs.declared.limits.TheConstants.{MOST_FRAMES};
 ghost use Rattle.frame_phases.specs.Servers.{IsServer};
-ghost use Rattle.frame_phases.specs.Finishes.{IsBegun, IsStartedFor, KeepsState, IsFinished};
+ghost use Rattle.frame_phases.specs.Finishes.{IsBegun, IsFinished};
 
 use crate::frame_out::FrameOut;
 use crate::shows::show_players;
@@ -87,8 +87,11 @@ pub fn begin_frame<'a>(
     ensures received { receiving_of (state_of states.new.next.ports states.new.next.world.records) received.new.lists
         ≡ received_in (map_in action.now) states.old.frames
         (state_of states.old.state.ports states.old.state.world.records) arrivals.now }
-    ensures started { IfOk result (λ started. IsStartedFor started action.now workers) }
-    ensures kept { KeepsState states.old states.new }
+    ensures action { IfOk result (λ started. started.action ≡ action.now) }
+    ensures workers { IfOk result (λ started. started.workers ≡ workers) }
+    ensures state { states.new.state ≡ states.old.state }
+    ensures frames { states.new.frames ≡ states.old.frames }
+    ensures tree { states.new.next.world.tree ≡ states.new.state.world.tree }
     ensures room { received.new.room ≡ received.old.room }
 {
     states.next.copy_from(&states.state);

@@ -1,12 +1,13 @@
 ghost use Rattle.std.specs.Prelude.{◌≡◌, ◌<◌, ◌≤◌, length, OnOk, OnErr};
-ghost use Rattle.plain_server.specs.Frames.{received_in, moved_by};
+ghost use Rattle.move_journal.specs.Merges.{IsInOrder};
+ghost use Rattle.plain_server.specs.Frames.{received_in, moved_by, IsRightAfter};
 ghost use Rattle.plain_server.specs.Replies.{slots_of, replies_of};
 ghost use Rattle.packet_read.specs.declared.arrival.TheConstants.{MOST_ARRIVALS};
 ghost use Rattle.arena_map.specs.declared.limits.TheConstants.{MOST_FRAMES};
+ghost use Rattle.plain_server.specs.Takers.{HasOneTaker, HasItemsAway};
 ghost use Rattle.move_phase.specs.Serving.{AreWorkers};
 ghost use Rattle.frame_phases.specs.Servers.{server_after};
 ghost use Rattle.frame_phases.specs.FrameOuts.{IsEmpty};
-ghost use Rattle.frame_phases.specs.Runs.{IsJournalOf, HasItemsTaken};
 
 use crate::frame_out::FrameOut;
 use crate::phases::{States, begin_frame, finish_frame};
@@ -95,13 +96,19 @@ pub fn run_frame<R: Threads + Wait + Sync, G: Gate>(
     ensures frame { OnOk result (out.new.frame ≡ server.old.frames) }
     ensures received { OnOk result (out.new.received.lists
         ≡ (received_in server.old.map server.old.frames server.old.state arrivals.now).lists) }
-    ensures journal { OnOk result (IsJournalOf workers server.old arrivals.now out.new.journal.entries) }
+    ensures right { OnOk result (IsRightAfter server.old.map
+        (received_in server.old.map server.old.frames server.old.state arrivals.now) out.new.journal.entries) }
+    ensures order { OnOk result (workers ≡ 1 → IsInOrder out.new.journal.entries
+        (received_in server.old.map server.old.frames server.old.state arrivals.now).lists.moves) }
+    ensures few { OnOk result (length out.new.journal.entries ≤ 512) }
     ensures slots { OnOk result (out.new.slots ≡ slots_of (moved_by server.old.map
         (received_in server.old.map server.old.frames server.old.state arrivals.now) out.new.journal.entries).records) }
     ensures replies { OnOk result (out.new.replies ≡ replies_of server.old.frames (moved_by server.old.map
         (received_in server.old.map server.old.frames server.old.state arrivals.now) out.new.journal.entries).records) }
     ensures next { OnOk result (server.new ≡ server_after server.old arrivals.now out.new.journal.entries) }
-    ensures items { OnOk result (HasItemsTaken server.old out.new.journal.entries server.new.state.records) }
+    ensures one_taker { OnOk result (HasOneTaker server.old.map out.new.journal.entries) }
+    ensures away { OnOk result (HasItemsAway server.old.map server.old.frames out.new.journal.entries
+        server.new.state.records) }
     ensures unchanged { OnErr result (server.new ≡ server.old) }
     ensures emptied { OnErr result (IsEmpty out.new) }
 {

@@ -1,19 +1,12 @@
-use Rattle.std.proofs.Common.{◌≡◌, refl, arith}
+use Rattle.std.proofs.Common.{◌≡◌, arith}
 use Rattle.frame_phases.proofs.Scoring.{score-next, score-all}
 use Rattle.frame_phases.proofs.scores.score_of.Goals as goal
-
-pub loop-slot-init : goal.loop-slot-init
-loop-slot-init c = record {
-  sum = refl;
-  bound = omega arith;
-  linked = λ some. absurd (omega (arith, some));
-}
 
 pub loop-slot-preserved : goal.loop-slot-preserved
 loop-slot-preserved c = record {
   sum = score-next c.args.world.now.records c.loop-slot.slot c.loop-slot.score c.score_in_slot-score.result c.loop-slot.invariant.sum c.score_in_slot-score.ensures.score;
   bound = omega (arith, c.loop-slot.invariant.bound, c.score_in_slot-score.ensures.bound);
-  linked = λ some. c.score_in_slot-score.ensures.linked;
+  linked = λ _. c.score_in_slot-score.ensures.linked;
 }
 
 pub returns : goal.returns

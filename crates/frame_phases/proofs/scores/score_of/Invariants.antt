@@ -1,4 +1,4 @@
-use Rattle.std.proofs.Common.{◌≡◌, ◌<◌, ◌≤◌, ◌*◌, ◌^◌}
+use Rattle.std.proofs.Common.{◌≡◌, ◌≤◌, ◌*◌, ◌^◌}
 use Rattle.world_tree.specs.Worlds.{IsLinked}
 use Rattle.frame_phases.proofs.Scoring.{score_first}
 use Rattle.frame_phases.proofs.scores.score_of.Given as goal
@@ -8,5 +8,5 @@ abbrev pub invariant-loop-slot : goal.invariant-loop-slot
 invariant-loop-slot l = record {
   sum : l.score ≡ score_first l.slot l.world.records;
   bound : l.score ≤ 2 ^ 32 * l.slot;
-  linked : 0 < l.slot → IsLinked l.world;
+  linked : 1 ≤ l.slot → IsLinked l.world;
 }

@@ -3,12 +3,6 @@ use Rattle.entity_recs.specs.declared.rec.Rec.{Rec}
 use Rattle.frame_phases.proofs.Showing.{shown-next, shown_few, shown-all}
 use Rattle.frame_phases.proofs.shows.list_slots.Goals as goal
 
-pub loop-slot-init : goal.loop-slot-init
-loop-slot-init c = record {
-  so_far = c.requires;
-  linked = λ some. absurd (omega (arith, some));
-}
-
 pub list_slot-requires : goal.list_slot-requires
 list_slot-requires c =
     let few = shown_few (λ (me : Rec). me.id) c.args.world.now.records c.loop-slot.slot c.loop-slot.slots c.loop-slot.invariant.so_far in
@@ -17,7 +11,7 @@ list_slot-requires c =
 pub loop-slot-preserved : goal.loop-slot-preserved
 loop-slot-preserved c = record {
   so_far = shown-next (λ (me : Rec). me.id) c.args.world.now.records c.loop-slot.slot c.loop-slot.slots c.list_slot.new.slots c.loop-slot.invariant.so_far c.list_slot.ensures.slots;
-  linked = λ some. c.list_slot.ensures.linked;
+  linked = λ _. c.list_slot.ensures.linked;
 }
 
 pub returns-clause-slots : goal.returns-clause-slots

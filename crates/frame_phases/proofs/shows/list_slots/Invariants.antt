@@ -1,4 +1,4 @@
-use Rattle.std.proofs.Common.{◌≡◌, ◌<◌, map, take}
+use Rattle.std.proofs.Common.{◌≡◌, ◌≤◌, map, take}
 use Rattle.entity_recs.specs.declared.rec.Rec.{Rec}
 use Rattle.world_tree.specs.Live.{live_in}
 use Rattle.world_tree.specs.Worlds.{IsLinked}
@@ -8,5 +8,5 @@ use Rattle.frame_phases.proofs.shows.list_slots.Given as goal
 abbrev pub invariant-loop-slot : goal.invariant-loop-slot
 invariant-loop-slot l = record {
   so_far : l.slots ≡ map (λ (me : Rec). me.id) (live_in (take l.slot l.world.records));
-  linked : 0 < l.slot → IsLinked l.world;
+  linked : 1 ≤ l.slot → IsLinked l.world;
 }

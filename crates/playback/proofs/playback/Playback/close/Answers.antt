@@ -19,7 +19,7 @@ returns-clause-closed g c =
     let view = ap (λ (xs : List Arrival). playback_with old.server old.is_open xs old.closed.items old.out) c.as_slice.ensures.value ∙ c.self.view_is in
     closes_by c.args.host.now.workers c.args.self.now old.server c.run_frame.new.server old.is_open c.as_slice.result.now old.closed.items old.out c.run_frame.new.out.journal.entries c.replace.result.entries
     view c.if-not-self.false (ap (λ (j : JournalView). j.entries) c.replace.ensures.value)
-    (record { right = c.in_ok-run_frame.ensures.journal.right; order = c.in_ok-run_frame.ensures.journal.order; few = c.in_ok-run_frame.ensures.journal.few; next = c.in_ok-run_frame.ensures.next })
+    (record { right = c.in_ok-run_frame.ensures.right; order = c.in_ok-run_frame.ensures.order; few = c.in_ok-run_frame.ensures.few; next = c.in_ok-run_frame.ensures.next })
 
 pub returns-clause-given : goal.returns-clause-given
 returns-clause-given g c =
