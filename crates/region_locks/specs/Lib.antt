@@ -22,7 +22,7 @@ pub use Rattle.ruled_words.specs.Loads
 pub use Rattle.ruled_words.specs.Straight
 pub use Rattle.core_steps.specs.Cells
 pub use Rattle.core_steps.specs.Nodes
-pub use Rattle.core_steps.specs.Points
+pub use Rattle.core_steps.specs.Points as CorePoints
 pub use Rattle.core_steps.specs.Reads
 pub use Rattle.core_steps.specs.Held
 pub use Rattle.core_steps.specs.Steps
