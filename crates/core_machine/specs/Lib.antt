@@ -1,7 +1,7 @@
 -- The pure core in code: how its plain fields are the machine of the definitions.
 pub use Rattle.core_steps.specs.Cells
 pub use Rattle.core_steps.specs.Nodes
-pub use Rattle.core_steps.specs.Points
+pub use Rattle.core_steps.specs.Points as CorePoints
 pub use Rattle.core_steps.specs.Reads
 pub use Rattle.core_steps.specs.Held
 pub use Rattle.core_steps.specs.Steps

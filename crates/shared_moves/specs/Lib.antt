@@ -8,7 +8,7 @@ pub use Rattle.region_locks.specs.Quitting
 pub use Rattle.region_locks.specs.Closing
 pub use Rattle.region_locks.specs.Pursuits
 pub use Rattle.core_steps.specs.Nodes
-pub use Rattle.core_steps.specs.Points
+pub use Rattle.core_steps.specs.Points as CorePoints
 pub use Rattle.core_steps.specs.Reads
 pub use Rattle.core_steps.specs.Held
 pub use Rattle.region_locks.specs.Moves
