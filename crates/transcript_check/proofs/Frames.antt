@@ -1,6 +1,5 @@
--- The lines of a frame, read part by part.
-use Rattle.std.proofs.Common.{◌≡◌, ℕ, ◌+◌, List, [], ◌++◌, append-nil, length, map, Option, sym, ap, ◌∙◌, subst, append_assoc, length-append, arith}
-use Rattle.std.proofs.lemmas.List.{length-map}
+-- The lines of a frame after its first, read part by part.
+use Rattle.std.proofs.Common.{◌≡◌, ℕ, List, [], ◌++◌, append-nil, map, Option, sym, ap, ◌∙◌, subst, append_assoc}
 use Rattle.edge_io.specs.declared.source.Source as sources
 use Rattle.entity_recs.specs.declared.rec.Rec.{Rec}
 use Rattle.entity_recs.specs.declared.effect.Entry.{Entry}
@@ -9,16 +8,15 @@ use Rattle.arena_map.specs.Maps.{MapView}
 use Rattle.arena_outcomes.specs.Outcomes.{outcome_on}
 use Rattle.client_ports.specs.Lists.{Lists}
 use Rattle.plain_server.specs.RecordsById.{world_of}
-use Rattle.demo_lines.specs.Reads.{DemoReaderView}
 use Rattle.out_text.specs.FrameLines.{did_line, to_lines}
 use Rattle.out_text.specs.OutLines.{OutLine, text_of}
 use Rattle.out_text.specs.Transcripts.{BeginsWith}
 use Rattle.out_text.proofs.Runs.{text_of-append}
-use Rattle.transcript_check.specs.Reading.{count_after, ahead_of, ReadsLines, ReadsBeginning, Misses}
-use Rattle.transcript_check.specs.Pieces.{HasNoJournal, AreOfJournal, head_lines}
-use Rattle.transcript_check.specs.Moves.{RunsMoves, moved_in, lines_among, RunsFrame}
+use Rattle.transcript_check.specs.Reading.{InputView, ahead_of, ReadsLines, ReadsBeginning, Misses}
+use Rattle.transcript_check.specs.Pieces.{HasNoJournal, AreOfJournal, early_lines}
+use Rattle.transcript_check.specs.Moves.{RunsMoves, moved_in, answers_among, RunsAnswers}
 use Rattle.transcript_check.proofs.Texts.{begins-after, begins-front, if_some-weaker, if_some-both}
-use Rattle.transcript_check.proofs.ReadingOn.{reads-both, counted-both, looked-within, looked-after}
+use Rattle.transcript_check.proofs.ReadingOn.{reads-both, looked-within, looked-after}
 use Rattle.transcript_check.proofs.MovesRead.{IsSplit, split-ahead}
 
 module _ {S : Type 0} (s : sources.Ghosts S) (map_view : MapView) (frame : ℕ) (lists : Lists) (records : List (Option Rec)) where
@@ -26,10 +24,10 @@ module _ {S : Type 0} (s : sources.Ghosts S) (map_view : MapView) (frame : ℕ) 
   Right = IsRight (outcome_on map_view) (world_of records) lists.moves
 
   abbrev Lines : List Entry → List OutLine
-  Lines = lines_among map_view frame records lists
+  Lines = answers_among map_view frame records lists
 
   abbrev head : List OutLine
-  head = head_lines frame lists
+  head = early_lines lists
 
   abbrev shown : List Entry → List OutLine
   shown journal = to_lines frame (moved_in map_view records lists.moves journal)
@@ -46,22 +44,22 @@ module _ {S : Type 0} (s : sources.Ghosts S) (map_view : MapView) (frame : ℕ) 
   after-head bytes left journal is begins = begins-after bytes left (text_of head) _ is (subst (BeginsWith bytes) (text-parts journal) begins)
 
   -- the head is missed
-  pub head-missed : (a c : S) (d : DemoReaderView) → Misses s a c d (λ bytes. BeginsWith bytes (text_of head) → ⊥) → Misses s a c d (HasNoJournal Right Lines)
+  pub head-missed : (a c : S) (d : InputView) → Misses s a c d (λ bytes. BeginsWith bytes (text_of head) → ⊥) → Misses s a c d (HasNoJournal Right Lines)
   head-missed a c d missed = record {
     missed = if_some-weaker (ahead_of s d a) _ _ missed.missed (λ bytes none journal right begins. none (begins-front bytes (text_of head) _ (subst (BeginsWith bytes) (text-parts journal) begins)));
     uncounted = missed.uncounted;
   }
 
   -- as much of it was looked at as there is before a right journal, and one line more at most
-  pub head-looked : (journal : List Entry) → Right journal → (a c : S) (d f : DemoReaderView) → ReadsBeginning s (λ ls. ls ≡ head) a c d f → ReadsBeginning s (AreOfJournal Right Lines) a c d f
+  pub head-looked : (journal : List Entry) → Right journal → (a c : S) (d f : InputView) → ReadsBeginning s (λ ls. ls ≡ head) a c d f → ReadsBeginning s (AreOfJournal Right Lines) a c d f
   head-looked journal right a c d f begun =
       let later = map did_line journal ++ shown journal in
       looked-within s a c d f (λ ls. ls ≡ head) (AreOfJournal Right Lines)
       (λ ls is. record { after = later; holds = record { journal = journal; right = right; lines_are = ap (λ xs. xs ++ later) is ∙ sym (parts journal) } }) begun
 
-  module _ (a b : S) (d e : DemoReaderView) (reads : ReadsLines s a b d e head) where
+  module _ (a b : S) (d e : InputView) (reads : ReadsLines s a b d e head) where
     -- of the moves as many as a right journal begins with
-    pub moves-looked : (c : S) (f : DemoReaderView) → ReadsBeginning s (AreOfJournal Right (map did_line)) b c e f → ReadsBeginning s (AreOfJournal Right Lines) a c d f
+    pub moves-looked : (c : S) (f : InputView) → ReadsBeginning s (AreOfJournal Right (map did_line)) b c e f → ReadsBeginning s (AreOfJournal Right Lines) a c d f
     moves-looked c f begun =
         looked-after s a b c d e f (AreOfJournal Right (map did_line)) (AreOfJournal Right Lines) head reads
         (λ ls is. record {
@@ -78,7 +76,7 @@ module _ {S : Type 0} (s : sources.Ghosts S) (map_view : MapView) (frame : ℕ) 
       uncounted = missed.uncounted ∙ reads.on.uncounted;
     }
 
-    module _ (c : S) (f : DemoReaderView) (records' : List (Option Rec)) (count count' : ℕ) (runs : RunsMoves s map_view b c e f records records' lists.moves count count') where
+    module _ (c : S) (f : InputView) (records' : List (Option Rec)) (runs : RunsMoves s map_view b c e f records records' lists.moves) where
       -- only this journal has its lines after the head
       abbrev Only : List ℕ → Type 0
       Only bytes = (other : List Entry) → Right other → BeginsWith bytes (text_of (map did_line other)) → other ≡ runs.journal
@@ -103,7 +101,7 @@ module _ {S : Type 0} (s : sources.Ghosts S) (map_view : MapView) (frame : ℕ) 
           }
 
       -- of the snapshots some
-      pub replies-looked : (g : S) (h : DemoReaderView) → ReadsBeginning s (λ ls. ls ≡ to_lines frame records') c g f h → ReadsBeginning s (AreOfJournal Right Lines) a g d h
+      pub replies-looked : (g : S) (h : InputView) → ReadsBeginning s (λ ls. ls ≡ to_lines frame records') c g f h → ReadsBeginning s (AreOfJournal Right Lines) a g d h
       replies-looked g h begun =
           let front = head ++ map did_line runs.journal in
           looked-after s a c g d f h (λ ls. ls ≡ to_lines frame records') (AreOfJournal Right Lines) front (reads-both s a b c d e f head (map did_line runs.journal) reads runs.reads.reads)
@@ -114,9 +112,8 @@ module _ {S : Type 0} (s : sources.Ghosts S) (map_view : MapView) (frame : ℕ) 
           begun
 
       -- all was read
-      pub frame-read : (g : S) (h : DemoReaderView) (first last : ℕ) → ReadsLines s c g f h (to_lines frame records') → count ≡ count_after first (length head) → last ≡ count_after count' (length (to_lines frame records'))
-          → RunsFrame s map_view frame lists a g d h records records' first last
-      frame-read g h first last shows counts more = record {
+      pub answers-read : (g : S) (h : InputView) → ReadsLines s c g f h (to_lines frame records') → RunsAnswers s map_view frame lists a g d h records records'
+      answers-read g h shows = record {
         journal = runs.journal;
         reads = record {
           right = runs.reads.right;
@@ -127,14 +124,4 @@ module _ {S : Type 0} (s : sources.Ghosts S) (map_view : MapView) (frame : ℕ) 
               (λ bytes has other right begins. has.holds other right (begins-front has.left (text_of (map did_line other)) _ (after-head bytes has.left other has.is begins)));
         };
         records_are = runs.records_are;
-        count_is = more ∙ ap (λ n. count_after n (length (to_lines frame records'))) (runs.count_is ∙ ap (λ n. count_after n (length runs.journal)) counts ∙ counted-both first (length head) (length runs.journal))
-            ∙ counted-both first (length head + length runs.journal) (length (to_lines frame records')) ∙ ap (count_after first) lengths;
       }
-        where
-          lengths : length head + length runs.journal + length (to_lines frame records') ≡ length (Lines runs.journal)
-          lengths =
-              let dids = length-map runs.journal did_line in
-              let one = length-append head (map did_line runs.journal) in
-              let all = length-append (head ++ map did_line runs.journal) (shown runs.journal) in
-              let same = ap (λ rs. length (to_lines frame rs)) runs.records_are in
-              omega (arith, dids, one, all, same)

@@ -12,21 +12,19 @@ use Rattle.plain_server.specs.RecordsById.{opening}
 use Rattle.plain_server.specs.Frames.{received_in, state_after, state_played, journals_of, IsRightAfter, AreRight}
 use Rattle.plain_server.proofs.Frames as plain
 use Rattle.plain_server.proofs.Turns.{right_count}
-use Rattle.demo_lines.specs.Reads.{DemoReaderView}
-use Rattle.demo_lines.specs.Rest.{HasRest}
 use Rattle.out_text.specs.FrameLines.{lines_with, run_lines}
 use Rattle.out_text.specs.OutLines.{OutLine, EndLine, printed_line, text_of}
 use Rattle.out_text.specs.Transcripts.{BeginsWith, run_moves, IsTranscript, HasRightPieces, IsWrongAfter}
 use Rattle.out_text.proofs.Runs.{run_lines-append, run_lines-push, state_played-push, right-append, right-push, right-split_last, right-take, text_of-append, next_number, same_taken}
 use Rattle.client_ports.specs.declared.received.TheConstants.{MOST_FRAME_MOVES}
-use Rattle.transcript_check.specs.Reading.{count_after, ahead_of, IsNeeded, ReadsLines, ReadsOneAtMost, ReadsBeginning, Misses}
+use Rattle.transcript_check.specs.Reading.{InputView, count_after, ahead_of, MayRead, IsNeeded, ReadsLines, ReadsOneAtMost, ReadsBeginning, Misses}
 use Rattle.transcript_check.specs.Checkers.{CheckerView, new_checker, IsChecker}
-use Rattle.transcript_check.specs.Pieces.{HasNoJournal, AreOfJournal, TakesFrame}
+use Rattle.transcript_check.specs.Pieces.{MissesFrame, BeginsFrame, HasNoJournal, AreOfJournal, TakesFrame}
 use Rattle.transcript_check.specs.Looked.{AreOfOutput, TakesOutput}
 use Rattle.transcript_check.specs.Verdicts.{IsRight, IsWrongAt, IsVerdict}
 use Rattle.transcript_check.specs.declared.verdict.Verdict.TheVariants.{Right, Wrong}
 use Rattle.transcript_check.proofs.Texts.{text_of-one, begins-after, begins-front, if_some-over, if_some-all}
-use Rattle.transcript_check.proofs.ReadingOn.{counted-both, reads-none, reads-both, IsWithin, looked-first, looked-after}
+use Rattle.transcript_check.proofs.ReadingOn.{reads-none, reads-both, IsWithin, looked-first, looked-after}
 
 -- the moves of one frame more
 run_moves-push : (map : MapView) (frame : ℕ) (s : State) (frames : List (List Arrival)) (arrivals : List Arrival) (js : List (List Entry)) (j : List Entry) → length js ≡ length frames
@@ -226,53 +224,53 @@ endless-pieces map frames js bytes left right is only none =
     }
 
 -- these frames were read
-pub record FramesSoFar {S : Type 0} (s : sources.Ghosts S) (map : MapView) (done : List (List Arrival)) (old now : S) (demo demo' : DemoReaderView) (c : CheckerView) : Type 0 where
+pub record FramesSoFar {S : Type 0} (s : sources.Ghosts S) (map : MapView) (done : List (List Arrival)) (old now : S) (demo : InputView) (c : CheckerView) : Type 0 where
   pub journals : List (List Entry)
   pub right : AreRight map 0 (opening map) done journals
-  pub reads : ReadsLines s old now demo demo' (run_lines map 0 (opening map) done journals)
+  pub reads : ReadsLines s old now demo c.input (run_lines map 0 (opening map) done journals)
   pub only : IfSome (ahead_of s demo old) (HasOnly map done journals)
   pub map_is : c.map ≡ map
   pub state_is : c.state ≡ state_played map 0 (opening map) done journals
   pub frames_are : c.frames ≡ 0 + length done
   pub moves_are : c.moves ≡ run_moves map 0 (opening map) done journals
   pub moves_few : c.moves ≤ MOST_FRAME_MOVES * length done
-  pub count_is : c.count ≡ count_after 0 (length (run_lines map 0 (opening map) done journals))
+  pub first : demo.count ≡ 0
   pub few : length (run_lines map 0 (opening map) done journals) ≤ 2000 * length done
   pub is : IsChecker c.map c.state
 
 module _ {S : Type 0} (s : sources.Ghosts S) (map : MapView) where
   -- none were read
-  pub so-far-none : (old : S) (demo : DemoReaderView) (c : CheckerView) → HasRest demo (ahead_of s demo old) → c ≡ new_checker map → IsChecker c.map c.state → FramesSoFar s map [] old old demo demo c
-  so-far-none old demo c may new is = record {
+  pub so-far-none : (old : S) (c : CheckerView) → MayRead s c.input old → c ≡ new_checker map c.input → c.input.count ≡ 0 → IsChecker c.map c.state → FramesSoFar s map [] old old c.input c
+  so-far-none old c may new first is = record {
     journals = [];
     right = tt;
-    reads = reads-none s old demo may;
-    only = if_some-all (ahead_of s demo old) (HasOnly map [] []) (λ bytes others right begins. no-journals map (opening map) others right);
+    reads = reads-none s old c.input may;
+    only = if_some-all (ahead_of s c.input old) (HasOnly map [] []) (λ bytes others right begins. no-journals map (opening map) others right);
     map_is = ap (λ (u : CheckerView). u.map) new;
     state_is = ap (λ (u : CheckerView). u.state) new;
     frames_are = ap (λ (u : CheckerView). u.frames) new;
     moves_are = ap (λ (u : CheckerView). u.moves) new;
     moves_few = (let m = ap (λ (u : CheckerView). u.moves) new in omega (arith, m));
-    count_is = ap (λ (u : CheckerView). u.count) new;
+    first = first;
     few = omega arith;
     is = is;
   }
 
-  module _ (done : List (List Arrival)) (old now : S) (demo demo' : DemoReaderView) (c : CheckerView) (so : FramesSoFar s map done old now demo demo' c) (arrivals : List Arrival) where
+  module _ (done : List (List Arrival)) (old now : S) (demo : InputView) (c : CheckerView) (so : FramesSoFar s map done old now demo c) (arrivals : List Arrival) where
     -- the checker, as what was read says
     abbrev checker_after : CheckerView
-    checker_after = record { map = map; state = state_played map 0 (opening map) done so.journals; frames = 0 + length done; moves = c.moves; count = c.count }
+    checker_after = record { map = map; state = state_played map 0 (opening map) done so.journals; frames = 0 + length done; moves = c.moves; input = c.input }
 
     checker_is : c ≡ checker_after
-    checker_is = λ i. record { map = so.map_is i; state = so.state_is i; frames = so.frames_are i; moves = c.moves; count = c.count }
+    checker_is = λ i. record { map = so.map_is i; state = so.state_is i; frames = so.frames_are i; moves = c.moves; input = c.input }
 
     abbrev received_next : Receiving
     received_next = received_in map (0 + length done) (state_played map 0 (opening map) done so.journals) arrivals
 
     -- one more was read
-    pub so-far-pushed : (new : S) (demo'' : DemoReaderView) (c' : CheckerView) → TakesFrame s now new demo' demo'' c c' arrivals → FramesSoFar s map (done ++ arrivals ∷ []) old new demo demo'' c'
-    so-far-pushed new demo'' c' taken =
-        let t : TakesFrame s now new demo' demo'' checker_after c' arrivals = subst (λ (u : CheckerView). TakesFrame s now new demo' demo'' u c' arrivals) checker_is taken in
+    pub so-far-pushed : (new : S) (c' : CheckerView) → TakesFrame s lines_with now new c c' arrivals → FramesSoFar s map (done ++ arrivals ∷ []) old new demo c'
+    so-far-pushed new c' taken =
+        let t : TakesFrame s lines_with now new checker_after c' arrivals = subst (λ (u : CheckerView). TakesFrame s lines_with now new u c' arrivals) checker_is taken in
         let js = so.journals in
         let j = t.journal in
         let same = right_count map 0 (opening map) done js so.right in
@@ -281,13 +279,12 @@ module _ {S : Type 0} (s : sources.Ghosts S) (map : MapView) where
         let both = run_lines-push map 0 (opening map) done arrivals js j same in
         let long = ap length both ∙ length-append front here in
         let more = length-append done (arrivals ∷ []) in
-        let counts = t.count_is ∙ ap (λ n. count_after n (length here)) so.count_is ∙ counted-both 0 (length front) (length here) ∙ ap (count_after 0) (sym long) in
         let moves = run_moves-push map 0 (opening map) done arrivals js j same in
         record {
           journals = js ++ j ∷ [];
           right = right-push map 0 (opening map) done arrivals js j so.right t.reads.right;
-          reads = subst (ReadsLines s old new demo demo'') (sym both) (reads-both s old now new demo demo' demo'' front here so.reads t.reads.reads);
-          only = if_some-over (ahead_of s demo old) (ahead_of s demo' now) (text_of front) (HasOnly map done js)
+          reads = subst (ReadsLines s old new demo c'.input) (sym both) (reads-both s old now new demo c.input c'.input front here so.reads t.reads.reads);
+          only = if_some-over (ahead_of s demo old) (ahead_of s c.input now) (text_of front) (HasOnly map done js)
               (λ bytes. (other : List Entry) → IsRightAfter map received_next other → BeginsWith bytes (text_of (lines_with map (0 + length done) received_next other)) → other ≡ j)
               (HasOnly map (done ++ arrivals ∷ []) (js ++ j ∷ [])) so.reads.consumed so.only t.reads.only
               (λ bytes left is only next. only-pushed map done arrivals js bytes left is only j next);
@@ -296,34 +293,34 @@ module _ {S : Type 0} (s : sources.Ghosts S) (map : MapView) where
           frames_are = (let f = t.frames_are in omega (arith, f, more));
           moves_are = t.moves_are ∙ ap (λ n. n + length received_next.lists.moves) so.moves_are ∙ sym moves;
           moves_few = (let m = t.moves_are in let b = t.moves_few in let a = so.moves_few in omega (arith, m, b, a, more));
-          count_is = counts;
+          first = so.first;
           few = (let a = so.few in let b = t.few in omega (arith, a, b, long, more));
           is = t.is;
         }
 
     -- the next frame is missed: where others follow it or not, the transcript is wrong after the lines of those that were read
     pub so-far-missed : (new : S) (more : List (List Arrival)) (before : ℕ) → length done ≤ MOST_FRAMES
-        → Misses s now new demo' (HasNoJournal (IsRightAfter c.map (received_in c.map c.frames c.state arrivals)) (lines_with c.map c.frames (received_in c.map c.frames c.state arrivals)))
-        → Misses s old new demo (λ bytes. IsWrongAt map (done ++ arrivals ∷ more) bytes before (before + c.count + 1))
+        → MissesFrame s lines_with now new c arrivals
+        → Misses s old new demo (λ bytes. IsWrongAt map (done ++ arrivals ∷ more) bytes before (before + c.input.count + 1))
     so-far-missed new more before few missed =
         let js = so.journals in
         let front = run_lines map 0 (opening map) done js in
-        let there : Misses s now new demo' (HasNoJournal (IsRightAfter map received_next) (lines_with map (0 + length done) received_next)) =
-        subst (λ (u : CheckerView). Misses s now new demo' (HasNoJournal (IsRightAfter u.map (received_in u.map u.frames u.state arrivals)) (lines_with u.map u.frames (received_in u.map u.frames u.state arrivals)))) checker_is missed in
+        let there : Misses s now new c.input (HasNoJournal (IsRightAfter map received_next) (lines_with map (0 + length done) received_next)) =
+        subst (λ (u : CheckerView). MissesFrame s lines_with now new u arrivals) checker_is missed in
         record {
-          missed = if_some-over (ahead_of s demo old) (ahead_of s demo' now) (text_of front) (HasOnly map done js)
+          missed = if_some-over (ahead_of s demo old) (ahead_of s c.input now) (text_of front) (HasOnly map done js)
               (HasNoJournal (IsRightAfter map received_next) (lines_with map (0 + length done) received_next))
-              (λ bytes. IsWrongAt map (done ++ arrivals ∷ more) bytes before (before + c.count + 1)) so.reads.consumed so.only there.missed
+              (λ bytes. IsWrongAt map (done ++ arrivals ∷ more) bytes before (before + c.input.count + 1)) so.reads.consumed so.only there.missed
               (λ bytes left is only none. wrong-at bytes left is only none);
           uncounted = there.uncounted ∙ so.reads.on.uncounted;
         }
       where
         wrong-at : (bytes left : List ℕ) → bytes ≡ text_of (run_lines map 0 (opening map) done so.journals) ++ left → HasOnly map done so.journals bytes
-            → HasNoJournal (IsRightAfter map received_next) (lines_with map (0 + length done) received_next) left → IsWrongAt map (done ++ arrivals ∷ more) bytes before (before + c.count + 1)
+            → HasNoJournal (IsRightAfter map received_next) (lines_with map (0 + length done) received_next) left → IsWrongAt map (done ++ arrivals ∷ more) bytes before (before + c.input.count + 1)
         wrong-at bytes left is only none =
             let js = so.journals in
             let lines = length (run_lines map 0 (opening map) done js) in
-            let count : c.count ≡ lines = so.count_is ∙ counted-few lines (let f = so.few in omega (arith, f, few)) in
+            let count : c.input.count ≡ lines = so.reads.count_is ∙ ap (λ n. count_after n lines) so.first ∙ counted-few lines (let f = so.few in omega (arith, f, few)) in
             let never = none-pushed map done arrivals js bytes left is only none in
             record {
               lines = lines;
@@ -332,14 +329,13 @@ module _ {S : Type 0} (s : sources.Ghosts S) (map : MapView) where
             }
 
     -- its beginning was looked at: so was that of an output of all frames
-    pub so-far-looked : (new : S) (demo'' : DemoReaderView) (more : List (List Arrival))
-        → ReadsBeginning s (AreOfJournal (IsRightAfter c.map (received_in c.map c.frames c.state arrivals)) (lines_with c.map c.frames (received_in c.map c.frames c.state arrivals))) now new demo' demo''
-        → ReadsBeginning s (AreOfOutput map (done ++ arrivals ∷ more)) old new demo demo''
-    so-far-looked new demo'' more begun =
+    pub so-far-looked : (new : S) (c' : CheckerView) (more : List (List Arrival)) → BeginsFrame s lines_with now new c c' arrivals
+        → ReadsBeginning s (AreOfOutput map (done ++ arrivals ∷ more)) old new demo c'.input
+    so-far-looked new c' more begun =
         let Next : CheckerView → List OutLine → Type 0 =
         λ u. AreOfJournal (IsRightAfter u.map (received_in u.map u.frames u.state arrivals)) (lines_with u.map u.frames (received_in u.map u.frames u.state arrivals)) in
-        looked-after s old now new demo demo' demo'' (Next checker_after) (AreOfOutput map (done ++ arrivals ∷ more)) (run_lines map 0 (opening map) done so.journals) so.reads
-        (λ ls is. goes-on ls is) (subst (λ (u : CheckerView). ReadsBeginning s (Next u) now new demo' demo'') checker_is begun)
+        looked-after s old now new demo c.input c'.input (Next checker_after) (AreOfOutput map (done ++ arrivals ∷ more)) (run_lines map 0 (opening map) done so.journals) so.reads
+        (λ ls is. goes-on ls is) (subst (λ (u : CheckerView). BeginsFrame s lines_with now new u c' arrivals) checker_is begun)
       where
         goes-on : (ls : List OutLine) → AreOfJournal (IsRightAfter map received_next) (lines_with map (0 + length done) received_next) ls
             → IsWithin (AreOfOutput map (done ++ arrivals ∷ more)) (run_lines map 0 (opening map) done so.journals) ls
@@ -364,21 +360,21 @@ module _ {S : Type 0} (s : sources.Ghosts S) (map : MapView) where
               };
             }
 
-  module _ (frames : List (List Arrival)) (old now : S) (demo demo' : DemoReaderView) (c : CheckerView) (so : FramesSoFar s map frames old now demo demo' c) where
+  module _ (frames : List (List Arrival)) (old now : S) (demo : InputView) (c : CheckerView) (so : FramesSoFar s map frames old now demo c) where
     -- of all frames, and then one line at most
-    pub end-looked : (new : S) (demo'' : DemoReaderView) → ReadsOneAtMost s now new demo' demo'' → ReadsBeginning s (AreOfOutput map frames) old new demo demo''
+    pub end-looked : (new : S) (demo'' : InputView) → ReadsOneAtMost s now new c.input demo'' → ReadsBeginning s (AreOfOutput map frames) old new demo demo''
     end-looked new demo'' one =
-        looked-first s old now new demo demo' demo'' (AreOfOutput map frames) (run_lines map 0 (opening map) frames so.journals) (EndLine (length frames) ∷ []) so.reads
+        looked-first s old now new demo c.input demo'' (AreOfOutput map frames) (run_lines map 0 (opening map) frames so.journals) (EndLine (length frames) ∷ []) so.reads
         (record { journals = so.journals; right = so.right; lines_are = refl }) one
 
     -- the whole output was read, and no more
-    pub output-looked : (new : S) (demo'' : DemoReaderView) → ReadsLines s now new demo' demo'' (EndLine c.frames ∷ [])
+    pub output-looked : (new : S) (demo'' : InputView) → ReadsLines s now new c.input demo'' (EndLine c.frames ∷ [])
         → TakesOutput map frames (ahead_of s demo old) (ahead_of s demo'' new) (IsNeeded s old new demo demo'') (s.ended new ≡ true)
     output-looked new demo'' reads =
         let lines = run_lines map 0 (opening map) frames so.journals in
         let count : c.frames ≡ length frames = (let f = so.frames_are in omega (arith, f)) in
         let all : ReadsLines s old new demo demo'' (lines ++ EndLine (length frames) ∷ []) =
-        reads-both s old now new demo demo' demo'' lines (EndLine (length frames) ∷ []) so.reads (subst (λ n. ReadsLines s now new demo' demo'' (EndLine n ∷ [])) count reads) in
+        reads-both s old now new demo c.input demo'' lines (EndLine (length frames) ∷ []) so.reads (subst (λ n. ReadsLines s now new c.input demo'' (EndLine n ∷ [])) count reads) in
         record {
           lines = lines ++ EndLine (length frames) ∷ [];
           whole = record { journals = so.journals; right = so.right; lines_are = refl };
@@ -387,13 +383,13 @@ module _ {S : Type 0} (s : sources.Ghosts S) (map : MapView) where
         }
 
     -- all frames were read, and the last line too
-    pub so-far-right : (new : S) (demo'' : DemoReaderView) → ReadsLines s now new demo' demo'' (EndLine c.frames ∷ []) → Misses s old new demo (λ bytes. IsRight map frames bytes c.frames c.moves)
+    pub so-far-right : (new : S) (demo'' : InputView) → ReadsLines s now new c.input demo'' (EndLine c.frames ∷ []) → Misses s old new demo (λ bytes. IsRight map frames bytes c.frames c.moves)
     so-far-right new demo'' reads =
         let js = so.journals in
         let lines = run_lines map 0 (opening map) frames js in
         let count : c.frames ≡ length frames = (let f = so.frames_are in omega (arith, f)) in
         let all : ReadsLines s old new demo demo'' (lines ++ EndLine (length frames) ∷ []) =
-        reads-both s old now new demo demo' demo'' lines (EndLine (length frames) ∷ []) so.reads (subst (λ n. ReadsLines s now new demo' demo'' (EndLine n ∷ [])) count reads) in
+        reads-both s old now new demo c.input demo'' lines (EndLine (length frames) ∷ []) so.reads (subst (λ n. ReadsLines s now new c.input demo'' (EndLine n ∷ [])) count reads) in
         record {
           missed = if_some-over (ahead_of s demo old) (ahead_of s demo'' new) (text_of (lines ++ EndLine (length frames) ∷ [])) (HasOnly map frames js) (λ _. ⊤) (λ bytes. IsRight map frames bytes c.frames c.moves)
               all.consumed so.only (if_some-all (ahead_of s demo'' new) (λ _. ⊤) (λ _. tt))
@@ -406,24 +402,24 @@ module _ {S : Type 0} (s : sources.Ghosts S) (map : MapView) where
         }
 
     -- the last line is missed
-    pub so-far-endless : (new : S) (before : ℕ) → length frames ≤ MOST_FRAMES → Misses s now new demo' (λ bytes. BeginsWith bytes (printed_line (EndLine c.frames)) → ⊥)
-        → Misses s old new demo (λ bytes. IsWrongAt map frames bytes before (before + c.count + 1))
+    pub so-far-endless : (new : S) (before : ℕ) → length frames ≤ MOST_FRAMES → Misses s now new c.input (λ bytes. BeginsWith bytes (printed_line (EndLine c.frames)) → ⊥)
+        → Misses s old new demo (λ bytes. IsWrongAt map frames bytes before (before + c.input.count + 1))
     so-far-endless new before few missed =
         let front = run_lines map 0 (opening map) frames so.journals in
         let end : c.frames ≡ length frames = (let f = so.frames_are in omega (arith, f)) in
-        let there = subst (λ n. Misses s now new demo' (λ bytes. BeginsWith bytes (printed_line (EndLine n)) → ⊥)) end missed in
+        let there = subst (λ n. Misses s now new c.input (λ bytes. BeginsWith bytes (printed_line (EndLine n)) → ⊥)) end missed in
         record {
-          missed = if_some-over (ahead_of s demo old) (ahead_of s demo' now) (text_of front) (HasOnly map frames so.journals) (λ bytes. BeginsWith bytes (printed_line (EndLine (length frames))) → ⊥)
-              (λ bytes. IsWrongAt map frames bytes before (before + c.count + 1)) so.reads.consumed so.only there.missed (λ bytes left is only none. wrong-at bytes left is only none);
+          missed = if_some-over (ahead_of s demo old) (ahead_of s c.input now) (text_of front) (HasOnly map frames so.journals) (λ bytes. BeginsWith bytes (printed_line (EndLine (length frames))) → ⊥)
+              (λ bytes. IsWrongAt map frames bytes before (before + c.input.count + 1)) so.reads.consumed so.only there.missed (λ bytes left is only none. wrong-at bytes left is only none);
           uncounted = there.uncounted ∙ so.reads.on.uncounted;
         }
       where
         wrong-at : (bytes left : List ℕ) → bytes ≡ text_of (run_lines map 0 (opening map) frames so.journals) ++ left → HasOnly map frames so.journals bytes
-            → (BeginsWith left (printed_line (EndLine (length frames))) → ⊥) → IsWrongAt map frames bytes before (before + c.count + 1)
+            → (BeginsWith left (printed_line (EndLine (length frames))) → ⊥) → IsWrongAt map frames bytes before (before + c.input.count + 1)
         wrong-at bytes left is only none =
             let js = so.journals in
             let lines = run_lines map 0 (opening map) frames js in
-            let count : c.count ≡ length lines = so.count_is ∙ counted-few (length lines) (let f = so.few in omega (arith, f, few)) in
+            let count : c.input.count ≡ length lines = so.reads.count_is ∙ ap (λ n. count_after n (length lines)) so.first ∙ counted-few (length lines) (let f = so.few in omega (arith, f, few)) in
             record {
               lines = length lines;
               wrong = endless-pieces map frames js bytes left so.right is only none;
@@ -434,29 +430,29 @@ module _ {S : Type 0} (s : sources.Ghosts S) (map : MapView) where
 
 module _ {S : Type 0} (s : sources.Ghosts S) (map : MapView) (frames : List (List Arrival)) (before : ℕ) (few : length frames ≤ MOST_FRAMES) where
   -- the next frame is missed
-  pub frame-wrong : (done more : List (List Arrival)) (arrivals : List Arrival) → frames ≡ done ++ arrivals ∷ more → (old now new : S) (demo demo' : DemoReaderView) (c : CheckerView)
-      → FramesSoFar s map done old now demo demo' c → (count : ℕ) → count ≡ c.count
-      → Misses s now new demo' (HasNoJournal (IsRightAfter c.map (received_in c.map c.frames c.state arrivals)) (lines_with c.map c.frames (received_in c.map c.frames c.state arrivals)))
+  pub frame-wrong : (done more : List (List Arrival)) (arrivals : List Arrival) → frames ≡ done ++ arrivals ∷ more → (old now new : S) (demo : InputView) (c : CheckerView)
+      → FramesSoFar s map done old now demo c → (count : ℕ) → count ≡ c.input.count
+      → MissesFrame s lines_with now new c arrivals
       → Misses s old new demo (λ bytes. IsVerdict map frames bytes before (Wrong (before + count + 1)))
-  frame-wrong done more arrivals is old now new demo demo' c so count counts missed =
+  frame-wrong done more arrivals is old now new demo c so count counts missed =
       let fewer : length done ≤ MOST_FRAMES = (let long = ap length is ∙ length-append done (arrivals ∷ more) in omega (arith, few, long)) in
-      let wrong = so-far-missed s map done old now demo demo' c so arrivals new more before fewer missed in
-      let right_frames = subst (λ (fs : List (List Arrival)). Misses s old new demo (λ bytes. IsWrongAt map fs bytes before (before + c.count + 1))) (sym is) wrong in
+      let wrong = so-far-missed s map done old now demo c so arrivals new more before fewer missed in
+      let right_frames = subst (λ (fs : List (List Arrival)). Misses s old new demo (λ bytes. IsWrongAt map fs bytes before (before + c.input.count + 1))) (sym is) wrong in
       subst (λ n. Misses s old new demo (λ bytes. IsWrongAt map frames bytes before (before + n + 1))) (sym counts) right_frames
 
   -- the last line is missed
-  pub end-wrong : (done : List (List Arrival)) → done ≡ frames → (old now new : S) (demo demo' : DemoReaderView) (c : CheckerView) → FramesSoFar s map done old now demo demo' c → (count : ℕ) → count ≡ c.count
-      → Misses s now new demo' (λ bytes. BeginsWith bytes (printed_line (EndLine c.frames)) → ⊥) → Misses s old new demo (λ bytes. IsVerdict map frames bytes before (Wrong (before + count + 1)))
-  end-wrong done all old now new demo demo' c so count counts missed =
-      let here = subst (λ (fs : List (List Arrival)). FramesSoFar s map fs old now demo demo' c) all so in
-      subst (λ n. Misses s old new demo (λ bytes. IsWrongAt map frames bytes before (before + n + 1))) (sym counts) (so-far-endless s map frames old now demo demo' c here new before few missed)
+  pub end-wrong : (done : List (List Arrival)) → done ≡ frames → (old now new : S) (demo : InputView) (c : CheckerView) → FramesSoFar s map done old now demo c → (count : ℕ) → count ≡ c.input.count
+      → Misses s now new c.input (λ bytes. BeginsWith bytes (printed_line (EndLine c.frames)) → ⊥) → Misses s old new demo (λ bytes. IsVerdict map frames bytes before (Wrong (before + count + 1)))
+  end-wrong done all old now new demo c so count counts missed =
+      let here = subst (λ (fs : List (List Arrival)). FramesSoFar s map fs old now demo c) all so in
+      subst (λ n. Misses s old new demo (λ bytes. IsWrongAt map frames bytes before (before + n + 1))) (sym counts) (so-far-endless s map frames old now demo c here new before few missed)
 
   -- all is right
-  pub all-right : (done : List (List Arrival)) → done ≡ frames → (old now new : S) (demo demo' demo'' : DemoReaderView) (c : CheckerView) → FramesSoFar s map done old now demo demo' c → (count moves : ℕ)
-      → count ≡ c.frames → moves ≡ c.moves → ReadsLines s now new demo' demo'' (EndLine c.frames ∷ []) → Misses s old new demo (λ bytes. IsVerdict map frames bytes before (Right count moves))
-  all-right done all old now new demo demo' demo'' c so count moves counts moved reads =
-      let here = subst (λ (fs : List (List Arrival)). FramesSoFar s map fs old now demo demo' c) all so in
-      let right = so-far-right s map frames old now demo demo' c here new demo'' reads in
+  pub all-right : (done : List (List Arrival)) → done ≡ frames → (old now new : S) (demo demo'' : InputView) (c : CheckerView) → FramesSoFar s map done old now demo c → (count moves : ℕ)
+      → count ≡ c.frames → moves ≡ c.moves → ReadsLines s now new c.input demo'' (EndLine c.frames ∷ []) → Misses s old new demo (λ bytes. IsVerdict map frames bytes before (Right count moves))
+  all-right done all old now new demo demo'' c so count moves counts moved reads =
+      let here = subst (λ (fs : List (List Arrival)). FramesSoFar s map fs old now demo c) all so in
+      let right = so-far-right s map frames old now demo c here new demo'' reads in
       subst (λ n. Misses s old new demo (λ bytes. IsRight map frames bytes n moves)) (sym counts)
       (subst (λ n. Misses s old new demo (λ bytes. IsRight map frames bytes c.frames n)) (sym moved) right)
 
@@ -464,22 +460,22 @@ module _ {S : Type 0} (s : sources.Ghosts S) (map : MapView) (frames : List (Lis
 
 module _ {S : Type 0} (s : sources.Ghosts S) (map : MapView) (frames : List (List Arrival)) where
   -- where the next frame is missed
-  pub wrong-looked : (done more : List (List Arrival)) (arrivals : List Arrival) → frames ≡ done ++ arrivals ∷ more → (old now new : S) (demo demo' demo'' : DemoReaderView) (c : CheckerView)
-      → FramesSoFar s map done old now demo demo' c
-      → ReadsBeginning s (AreOfJournal (IsRightAfter c.map (received_in c.map c.frames c.state arrivals)) (lines_with c.map c.frames (received_in c.map c.frames c.state arrivals))) now new demo' demo''
-      → ReadsBeginning s (AreOfOutput map frames) old new demo demo''
-  wrong-looked done more arrivals is old now new demo demo' demo'' c so begun =
-      subst (λ (fs : List (List Arrival)). ReadsBeginning s (AreOfOutput map fs) old new demo demo'') (sym is) (so-far-looked s map done old now demo demo' c so arrivals new demo'' more begun)
+  pub wrong-looked : (done more : List (List Arrival)) (arrivals : List Arrival) → frames ≡ done ++ arrivals ∷ more → (old now new : S) (demo : InputView) (c c' : CheckerView)
+      → FramesSoFar s map done old now demo c
+      → BeginsFrame s lines_with now new c c' arrivals
+      → ReadsBeginning s (AreOfOutput map frames) old new demo c'.input
+  wrong-looked done more arrivals is old now new demo c c' so begun =
+      subst (λ (fs : List (List Arrival)). ReadsBeginning s (AreOfOutput map fs) old new demo c'.input) (sym is) (so-far-looked s map done old now demo c so arrivals new c' more begun)
 
-  module _ (done : List (List Arrival)) (all : done ≡ frames) (old now new : S) (demo demo' demo'' : DemoReaderView) (c : CheckerView) (so : FramesSoFar s map done old now demo demo' c) where
-    here : FramesSoFar s map frames old now demo demo' c
-    here = subst (λ (fs : List (List Arrival)). FramesSoFar s map fs old now demo demo' c) all so
+  module _ (done : List (List Arrival)) (all : done ≡ frames) (old now new : S) (demo demo'' : InputView) (c : CheckerView) (so : FramesSoFar s map done old now demo c) where
+    here : FramesSoFar s map frames old now demo c
+    here = subst (λ (fs : List (List Arrival)). FramesSoFar s map fs old now demo c) all so
 
     -- where the last line is
-    pub endless-looked : ReadsOneAtMost s now new demo' demo'' → ReadsBeginning s (AreOfOutput map frames) old new demo demo''
-    endless-looked one = end-looked s map frames old now demo demo' c here new demo'' one
+    pub endless-looked : ReadsOneAtMost s now new c.input demo'' → ReadsBeginning s (AreOfOutput map frames) old new demo demo''
+    endless-looked one = end-looked s map frames old now demo c here new demo'' one
 
     -- where all is right
-    pub right-looked : ReadsLines s now new demo' demo'' (EndLine c.frames ∷ [])
+    pub right-looked : ReadsLines s now new c.input demo'' (EndLine c.frames ∷ [])
         → TakesOutput map frames (ahead_of s demo old) (ahead_of s demo'' new) (IsNeeded s old new demo demo'') (s.ended new ≡ true)
-    right-looked reads = output-looked s map frames old now demo demo' c here new demo'' reads
+    right-looked reads = output-looked s map frames old now demo c here new demo'' reads

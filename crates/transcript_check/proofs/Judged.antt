@@ -3,6 +3,7 @@ use Rattle.std.proofs.Common.{◌≡◌, ℕ, ◌≤◌, true, List, [], ◌∷�
 use Rattle.std.specs.List.{AllByRecursion}
 use Rattle.edge_io.specs.declared.source.Source as sources
 use Rattle.edge_io.specs.Counts.{HasRisen}
+use Rattle.edge_io.specs.Lines.{ahead, HasNotReadAhead}
 use Rattle.arena_map.specs.declared.limits.TheConstants.{MOST_FRAMES}
 use Rattle.arena_map.specs.Maps.{MapView}
 use Rattle.packet_read.specs.declared.arrival.Arrival.{Arrival}
@@ -19,7 +20,7 @@ use Rattle.demo_lines.proofs.Ends.{after-over, events_of-over}
 use Rattle.out_text.specs.Collecting.{Frames, frames_of_events, frames_within}
 use Rattle.out_text.proofs.Fewness.{frames_are_few_of}
 use Rattle.out_text.proofs.SmallFrames.{IsSmallFrame, frames_are_small_of}
-use Rattle.transcript_check.specs.Reading.{ahead_of, IsNeeded, Misses, ReadFails}
+use Rattle.transcript_check.specs.Reading.{InputView, ahead_of, IsNeeded, Misses, ReadFails}
 use Rattle.transcript_check.specs.Looked.{LooksAt}
 use Rattle.transcript_check.specs.Recorded.{ReadsRecording}
 use Rattle.transcript_check.specs.Verdicts.{IsShort, IsVerdict, IsJudged, Judges, StopsChecking}
@@ -83,11 +84,11 @@ module _ {S : Type 0} (s : sources.Ghosts S) (limit : ℕ) (source source' : S) 
       subst (AllByRecursion IsShort) (ap (λ (f : Frames). f.closed) (sym here)) (short-frames (frames_of_events (events_of (start_within limit) read.reads.lines)).closed (frames_are_small_of limit read.reads.lines))
 
   -- a verdict on what follows is one on the whole
-  pub read-judged : (source'' : S) (demo' demo'' : DemoReaderView) (arena : MapView) (verdict : Verdict) → demo' ≡ map_taken demo → demo.reading.map ≡ Some arena
-      → Misses s source' source'' demo' (λ rest. IsVerdict arena frames.closed rest demo.reading.lines verdict)
-      → LooksAt verdict arena frames.closed (ahead_of s demo' source') (ahead_of s demo'' source'') (IsNeeded s source' source'' demo' demo'') (s.ended source'' ≡ true)
+  pub read-judged : (source'' : S) (input input'' : InputView) (arena : MapView) (verdict : Verdict) → input.demo ≡ map_taken demo → demo.reading.map ≡ Some arena
+      → Misses s source' source'' input (λ rest. IsVerdict arena frames.closed rest demo.reading.lines verdict)
+      → LooksAt verdict arena frames.closed (ahead_of s input source') (ahead_of s input'' source'') (IsNeeded s source' source'' input input'') (s.ended source'' ≡ true)
       → Judges s limit source source'' verdict
-  read-judged source'' demo' demo'' arena verdict taken map_is missed looks = record {
+  read-judged source'' input input'' arena verdict taken map_is missed looks = record {
     read = record {
       between = source';
       recording = record {
@@ -103,21 +104,22 @@ module _ {S : Type 0} (s : sources.Ghosts S) (limit : ℕ) (source source' : S) 
       };
       map = arena;
       map_is = ap (λ (t : Reading). t.map) (sym read.reads.reached) ∙ map_is;
-      buffered = demo''.pending;
+      buffered = input''.demo.pending;
       looks = (let here : frames ≡ frames_of_events (events_of (start_within limit) read.reads.lines) = read.frames_are ∙ ap frames_of_events (sym read.reads.events) in
           let Looks : DemoReaderView → Frames → Type 0 = λ d fs.
-          LooksAt verdict arena fs.closed (ahead_of s d source') (ahead_of s demo'' source'') (IsNeeded s source' source'' d demo'') (s.ended source'' ≡ true) in
+          LooksAt verdict arena fs.closed (ahead d.pending (s.left source')) (ahead_of s input'' source'')
+          (HasNotReadAhead source' source'' (s.last source'') d.pending input''.demo.pending × (s.ended source'' ≡ s.ended source')) (s.ended source'' ≡ true) in
           subst (Looks (map_taken demo)) here (subst (λ (d : DemoReaderView). Looks d frames) taken looks));
     };
-    judged = judged limit demo.reading read.events arena frames verdict (s.left source) (ahead_of s demo source') read.reads read.frames_are read.ended map_is
-        (subst (λ (d : DemoReaderView). IfSome (ahead_of s d source') (λ rest. IsVerdict arena frames.closed rest demo.reading.lines verdict)) taken missed.missed);
+    judged = judged limit demo.reading read.events arena frames verdict (s.left source) (ahead demo.pending (s.left source')) read.reads read.frames_are read.ended map_is
+        (subst (λ (d : DemoReaderView). IfSome (ahead d.pending (s.left source')) (λ rest. IsVerdict arena frames.closed rest demo.reading.lines verdict)) taken missed.missed);
     reads = missed.uncounted ∙ read.uncounted;
   }
 
 -- a read that fails while the lines after the recording are compared
-pub stops-comparing : {S : Type 0} (s : sources.Ghosts S) (limit : ℕ) (source mid new : S) (demo demo' : DemoReaderView) (recorded : Frames) (stop : DemoStop)
-    → demo' ≡ map_taken demo → ReadsRecording s limit source mid demo recorded → ReadFails s mid new demo' stop → StopsChecking s limit source new stop
-stops-comparing s limit source mid new demo demo' recorded stop taken read fails =
+pub stops-comparing : {S : Type 0} (s : sources.Ghosts S) (limit : ℕ) (source mid new : S) (demo : DemoReaderView) (input : InputView) (recorded : Frames) (stop : DemoStop)
+    → input.demo ≡ map_taken demo → ReadsRecording s limit source mid demo recorded → ReadFails s mid new input stop → StopsChecking s limit source new stop
+stops-comparing s limit source mid new demo input recorded stop taken read fails =
     subst (StopsChecking s limit source new) (sym fails.is) (record {
       before_end = fails.before_end ∙ read.before_end (sym (ap (λ (d : DemoReaderView). d.cut) taken) ∙ fails.not_cut);
       fault = subst (λ (n : ℕ). HasRisen n (s.faults new)) read.uncounted fails.fault;

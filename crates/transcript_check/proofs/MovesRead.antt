@@ -17,8 +17,7 @@ use Rattle.arena_outcomes.specs.Outcomes.{outcome_on}
 use Rattle.plain_server.specs.RecordsById.{world_of}
 use Rattle.plain_server.specs.Moving.{HasLivePlayer, HasSmallNumber, records_after, HaveMoved}
 use Rattle.plain_server.proofs.Moves.{moved-none, moved-records}
-use Rattle.demo_lines.specs.Reads.{DemoReaderView}
-use Rattle.demo_lines.specs.Rest.{HasRest, HasNoRestLine}
+use Rattle.demo_lines.specs.Rest.{HasNoRestLine}
 use Rattle.out_text.specs.FrameLines.{did_line}
 use Rattle.out_text.specs.OutLines.{OutLine, FrameLine, FromLine, NoLine, JoinedLine, DidLine, ToLine, EndLine, line_spelling, printed_line, text_of}
 use Rattle.out_text.specs.Transcripts.{BeginsWith}
@@ -26,33 +25,33 @@ use Rattle.out_text.proofs.Runs.{text_of-append}
 use Rattle.out_text.proofs.LinesRead as lines_read
 use Rattle.std.proofs.lemmas.Option.{same_Some}
 use Rattle.transcript_check.specs.declared.lines.Reported.{Reported}
-use Rattle.transcript_check.specs.Reading.{count_after, ahead_of, ReadsLine, ReadsLines, ReadsOneAtMost, ReadsBeginning, Misses}
+use Rattle.transcript_check.specs.Reading.{InputView, ahead_of, MayRead, ReadsLine, ReadsLines, ReadsOneAtMost, ReadsBeginning, Misses}
 use Rattle.transcript_check.specs.Pieces.{HasNoJournal, AreOfJournal}
 use Rattle.transcript_check.specs.Moves.{IsNextOf, move_line, IsReadable, IsNoMove, TakesMove, RunsMoves}
 use Rattle.transcript_check.proofs.Texts.{one_line, same_line, text_of-one, begins-after, begins-front, if_some-read, if_some-weaker, if_some-both, if_some-all}
-use Rattle.transcript_check.proofs.ReadingOn.{reads-none, reads-both, counted-both, looked-first}
+use Rattle.transcript_check.proofs.ReadingOn.{reads-none, reads-both, looked-first}
 use Rattle.transcript_check.proofs.InRange.{readable}
 use Rattle.transcript_check.proofs.Turns.{AreReady, IsRightFrom, right-none, right-empty, ready-next, right-cons, some-journal, entry_there, begins-with_move, moved-next, next-has}
 
 -- ---- one line
 
 -- where the line that was read is that of no next move
-pub no-move : {S : Type 0} (s : sources.Ghosts S) (map_view : MapView) (a b : S) (d e : DemoReaderView) (given : List ℕ) (records : List (Option Rec)) (pending : List Command) → ReadsLine s a b d e given
-    → ((c : Command) (left : List Command) → IsNextOf pending c left → IsReadable (move_line map_view records c) → given ≡ line_spelling (move_line map_view records c) → ⊥)
+pub no-move : {S : Type 0} (s : sources.Ghosts S) (map_view : MapView) (a b : S) (d e : InputView) (records : List (Option Rec)) (pending : List Command) → ReadsLine s a b d e
+    → ((c : Command) (left : List Command) → IsNextOf pending c left → IsReadable (move_line map_view records c) → e.given ≡ line_spelling (move_line map_view records c) → ⊥)
     → Misses s a b d (IsNoMove map_view records pending)
-no-move s map_view a b d e given records pending one none = record { missed = by (ahead_of s d a) (ahead_of s e b) one.gives.consumed; uncounted = one.on.uncounted }
+no-move s map_view a b d e records pending one none = record { missed = by (ahead_of s d a) (ahead_of s e b) one.gives.consumed; uncounted = one.on.uncounted }
   where
-    by : (p q : Option (List ℕ)) → Consumes p q (given ++ 10 ∷ []) → IfSome p (IsNoMove map_view records pending)
+    by : (p q : Option (List ℕ)) → Consumes p q (e.given ++ 10 ∷ []) → IfSome p (IsNoMove map_view records pending)
     by None q consumed = tt
     by (Some bytes) None consumed = absurd consumed
     by (Some bytes) (Some left_bytes) consumed = λ c left next is begins.
         let l = move_line map_view records c in
-        let both : given ++ 10 ∷ left_bytes ≡ line_spelling l ++ 10 ∷ begins.after =
-        sym (append_assoc given (10 ∷ []) left_bytes) ∙ sym consumed ∙ begins.is ∙ append_assoc (line_spelling l) (10 ∷ []) begins.after in
-        none c left next is (same_line given (line_spelling l) left_bytes begins.after one.gives.one_line (one_line l) both).line_is
+        let both : e.given ++ 10 ∷ left_bytes ≡ line_spelling l ++ 10 ∷ begins.after =
+        sym (append_assoc e.given (10 ∷ []) left_bytes) ∙ sym consumed ∙ begins.is ∙ append_assoc (line_spelling l) (10 ∷ []) begins.after in
+        none c left next is (same_line e.given (line_spelling l) left_bytes begins.after one.gives.one_line (one_line l) both).line_is
 
 -- where no line was read
-pub no-line : {S : Type 0} (s : sources.Ghosts S) (map_view : MapView) (a b : S) (d : DemoReaderView) (records : List (Option Rec)) (pending : List Command) → Misses s a b d HasNoRestLine
+pub no-line : {S : Type 0} (s : sources.Ghosts S) (map_view : MapView) (a b : S) (d : InputView) (records : List (Option Rec)) (pending : List Command) → Misses s a b d HasNoRestLine
     → Misses s a b d (IsNoMove map_view records pending)
 no-line s map_view a b d records pending none = record {
   missed = if_some-weaker (ahead_of s d a) HasNoRestLine (IsNoMove map_view records pending) none.missed
@@ -141,7 +140,7 @@ module _ {S : Type 0} (s : sources.Ghosts S) (map_view : MapView) (is_map : IsMa
     pub right : IsRightFrom map_view moves (length front) records pending rest
 
   -- the lines of these entries were read, and the moves are run so far
-  pub record MovesSoFar (old now : S) (demo demo' : DemoReaderView) (records : List (Option Rec)) (pending : List Command) (first count : ℕ) : Type 0 where
+  pub record MovesSoFar (old now : S) (demo demo' : InputView) (records : List (Option Rec)) (pending : List Command) : Type 0 where
     pub front : List Entry
     pub ready : AreReady map_view moves records pending
     pub small : AllByRecursion HasSmallNumber pending
@@ -149,7 +148,6 @@ module _ {S : Type 0} (s : sources.Ghosts S) (map_view : MapView) (is_map : IsMa
     pub reads : ReadsLines s old now demo demo' (lines front)
     pub into : (rest : List Entry) → IsRightFrom map_view moves (length front) records pending rest → RightFirst (front ++ rest)
     pub out_of : IfSome (ahead_of s demo old) (λ bytes. (journal : List Entry) → RightFirst journal → BeginsWith bytes (text_of (lines journal)) → GoesOnWith records pending front journal)
-    pub count_is : count ≡ count_after first (length front)
 
   -- a right journal from its first place on is right
   right-again : (journal : List Entry) → RightFirst journal → Right journal
@@ -164,8 +162,8 @@ module _ {S : Type 0} (s : sources.Ghosts S) (map_view : MapView) (is_map : IsMa
   pub some-right : AreReady map_view moves start moves → HasJournal
   some-right ready = let some = some-journal map_view is_map moves 0 start moves ready in record { journal = some.journal; right = right-again some.journal some.right }
 
-  pub so-far-first : (old : S) (demo : DemoReaderView) (first : ℕ) → HasRest demo (ahead_of s demo old) → AreReady map_view moves start moves → AllByRecursion HasSmallNumber moves → MovesSoFar old old demo demo start moves first first
-  so-far-first old demo first may ready small = record {
+  pub so-far-first : (old : S) (demo : InputView) → MayRead s demo old → AreReady map_view moves start moves → AllByRecursion HasSmallNumber moves → MovesSoFar old old demo demo start moves
+  so-far-first old demo may ready small = record {
     front = [];
     ready = ready;
     small = small;
@@ -173,14 +171,13 @@ module _ {S : Type 0} (s : sources.Ghosts S) (map_view : MapView) (is_map : IsMa
     reads = reads-none s old demo may;
     into = λ rest right. right;
     out_of = if_some-all (ahead_of s demo old) _ (λ bytes journal right begins. record { rest = journal; is = refl; right = right });
-    count_is = refl;
   }
 
   -- the next line, for a journal that goes on with its move
   text-with : (front : List Entry) (e : Entry) (rest : List Entry) → text_of (lines (front ++ e ∷ rest)) ≡ text_of (lines front) ++ (printed_line (did_line e) ++ text_of (lines rest))
   text-with front e rest = ap text_of (map-append did_line front (e ∷ rest)) ∙ text_of-append (lines front) (did_line e ∷ lines rest)
 
-  module _ (old now : S) (demo demo' : DemoReaderView) (records : List (Option Rec)) (pending : List Command) (first count : ℕ) (so : MovesSoFar old now demo demo' records pending first count) where
+  module _ (old now : S) (demo demo' : InputView) (records : List (Option Rec)) (pending : List Command) (so : MovesSoFar old now demo demo' records pending) where
     readable-next : (c : Command) (left : List Command) → IsNextOf pending c left → IsReadable (move_line map_view records c)
     readable-next c left next =
         readable map_view records c is_map so.ready.valid (next-has (HasLivePlayer records) pending c left next so.ready.live).0 (next-has HasSmallNumber pending c left next so.small).0
@@ -194,7 +191,7 @@ module _ {S : Type 0} (s : sources.Ghosts S) (map_view : MapView) (is_map : IsMa
         (subst (BeginsWith bytes) (ap (λ j. text_of (lines j)) is ∙ text-with front e rest) begins))
 
     -- after their lines one more at most was looked at
-    pub so-far-looked : (next : S) (demo'' : DemoReaderView) → ReadsOneAtMost s now next demo' demo'' → ReadsBeginning s (AreOfJournal Right lines) old next demo demo''
+    pub so-far-looked : (next : S) (demo'' : InputView) → ReadsOneAtMost s now next demo' demo'' → ReadsBeginning s (AreOfJournal Right lines) old next demo demo''
     so-far-looked next demo'' one =
         let rest = some-journal map_view is_map moves (length so.front) records pending so.ready in
         looked-first s old now next demo demo' demo'' (AreOfJournal Right lines) (lines so.front) (lines rest.journal) so.reads
@@ -219,14 +216,14 @@ module _ {S : Type 0} (s : sources.Ghosts S) (map_view : MapView) (is_map : IsMa
         right-of journal right = record { merge = right.merge; legal = legal_at_first (outcome_on map_view) (world_of start) (history_of moves journal) right.legal }
 
     -- the line of a next move was read, and it was run
-    pub so-far-next : (next : S) (demo'' : DemoReaderView) (records' : List (Option Rec)) (pending' : List Command) (count' : ℕ) → TakesMove s map_view now next demo' demo'' records records' pending pending'
-        → count' ≡ count_after count 1 → MovesSoFar old next demo demo'' records' pending' first count'
-    so-far-next next demo'' records' pending' count' takes counts =
+    pub so-far-next : (next : S) (demo'' : InputView) (records' : List (Option Rec)) (pending' : List Command) → TakesMove s map_view now next demo' demo'' records records' pending pending'
+        → MovesSoFar old next demo demo'' records' pending'
+    so-far-next next demo'' records' pending' takes =
         let c = takes.c in
         let e = entry_there map_view is_map moves (length so.front) records c in
         let front = so.front ++ e ∷ [] in
         let more : length front ≡ length so.front + 1 = length-append so.front (e ∷ []) in
-        let made : MovesSoFar old next demo demo'' (records_after map_view records c) pending' first count' = record {
+        let made : MovesSoFar old next demo demo'' (records_after map_view records c) pending' = record {
           front = front;
           ready = ready-next map_view is_map moves records pending c pending' so.ready takes.next;
           small = (next-has HasSmallNumber pending c pending' takes.next so.small).1;
@@ -241,9 +238,8 @@ module _ {S : Type 0} (s : sources.Ghosts S) (map_view : MapView) (is_map : IsMa
               (if_some-both (ahead_of s demo old) _ _ (split-ahead (ahead_of s demo old) (ahead_of s demo' now) (text_of (lines so.front)) (λ bytes. BeginsWith bytes (printed_line (move_line map_view records c))) so.reads.consumed
               (begins-read (ahead_of s demo' now) (ahead_of s demo'' next) (move_line map_view records c) takes.reads.consumed)) so.out_of)
               (λ bytes has journal right begins. goes-next c takes.next e bytes has.0.left has.0.is has.0.holds journal begins (has.1 journal right begins));
-          count_is = counts ∙ ap (λ n. count_after n 1) so.count_is ∙ counted-both first (length so.front) 1 ∙ ap (count_after first) (sym more);
         } in
-        subst (λ rs. MovesSoFar old next demo demo'' rs pending' first count') (sym takes.records_are) made
+        subst (λ rs. MovesSoFar old next demo demo'' rs pending') (sym takes.records_are) made
       where
         begins-read : (a b : Option (List ℕ)) (l : OutLine) → Consumes a b (text_of (l ∷ [])) → IfSome a (λ bytes. BeginsWith bytes (printed_line l))
         begins-read None b l reads = tt
@@ -288,7 +284,7 @@ module _ {S : Type 0} (s : sources.Ghosts S) (map_view : MapView) (is_map : IsMa
             goes-same c m.c pending' m.left journal m.rest one (goes.is ∙ ap (λ r. so.front ++ r) m.journal_is) m.right
 
     -- all moves were run
-    pub so-far-done : pending ≡ [] → RunsMoves s map_view old now demo demo' start records moves first count
+    pub so-far-done : pending ≡ [] → RunsMoves s map_view old now demo demo' start records moves
     so-far-done none = record {
       journal = so.front;
       reads = record {
@@ -297,7 +293,6 @@ module _ {S : Type 0} (s : sources.Ghosts S) (map_view : MapView) (is_map : IsMa
         only = if_some-weaker (ahead_of s demo old) _ _ so.out_of (λ bytes goes other right begins. only-one other (goes other (first-of other right) begins));
       };
       records_are = sym (moved-records map_view start records (commands_of (history_of moves so.front)) so.moved);
-      count_is = so.count_is;
     }
       where
         first-of : (journal : List Entry) → Right journal → RightFirst journal

@@ -5,19 +5,20 @@ use Rattle.move_journal.specs.Merges.{HasNumbersApart}
 use Rattle.arena_map.specs.Maps.{MapView, IsMap}
 use Rattle.packet_read.specs.declared.arrival.Arrival.{Arrival}
 use Rattle.client_ports.specs.States.{State, IsServerState}
+use Rattle.client_ports.specs.Lists.{Lists}
 use Rattle.client_ports.specs.Receiving.{Receiving}
 use Rattle.plain_server.specs.Entries.{IsReported, AreReported}
 use Rattle.plain_server.specs.Frames.{received_in, moved_by, state_after, IsRightAfter, AreRight}
 use Rattle.plain_server.proofs.Frames.{received_is, state_after_is}
 use Rattle.out_text.specs.Dids.{Did, did_of, entry_at}
 use Rattle.out_text.specs.FrameLines.{did_line, to_lines, lines_with, run_lines}
-use Rattle.out_text.specs.OutLines.{OutLine, line_spelling, printed_line, text_of}
+use Rattle.out_text.specs.OutLines.{OutLine, FrameLine, line_spelling, printed_line, text_of}
 use Rattle.out_text.specs.Ranges.{IsInRange}
 use Rattle.out_text.specs.Transcripts.{BeginsWith}
 use Rattle.out_text.proofs.LinesRead as lines_read
 use Rattle.out_text.proofs.Reporting.{HaveBytes, right_are_reported}
 use Rattle.out_text.proofs.Runs.{text_of-append}
-use Rattle.transcript_check.specs.Pieces.{head_lines}
+use Rattle.transcript_check.specs.Pieces.{early_lines}
 use Rattle.transcript_check.proofs.Fewness.{entries_of_merge}
 use Rattle.transcript_check.proofs.InRange.{near_fits}
 use Rattle.transcript_check.proofs.Texts.{one_line, same_line, begins-after, begins-front}
@@ -65,6 +66,10 @@ same-journal place (e ∷ es) (d ∷ ds) bytes are also same one two =
     λ i. entry i ∷ rest i
 
 -- ---- frames
+
+-- the lines of a frame before its moves
+abbrev head_lines : ℕ → Lists → List OutLine
+head_lines frame lists = FrameLine frame ∷ early_lines lists
 
 module _ (map_view : MapView) (is_map : IsMap map_view) where
   -- the text of a frame is that of its first lines, of its moves and of its snapshots

@@ -4,7 +4,7 @@ use Rattle.std.proofs.KnownBytes.{Consumes-nil, prepend_known-nil}
 use Rattle.std.specs.Io.KnownBytes.{Consumes, IsAtEnd}
 use Rattle.edge_io.specs.declared.source.Source as sources
 use Rattle.edge_io.specs.Counts.{HasRisen}
-use Rattle.edge_io.specs.Lines.{HasNotReadAhead}
+use Rattle.edge_io.specs.Lines.{ahead, HasNotReadAhead}
 use Rattle.edge_io.proofs.ReadingAhead.{HasNotReadAhead-same, HasNotReadAhead-trans}
 use Rattle.demo_lines.specs.declared.stage.Stage.TheVariants.{Ended}
 use Rattle.demo_lines.specs.declared.event.Event.{Event}
@@ -21,7 +21,6 @@ use Rattle.demo_lines.proofs.Joins.{Reads-trans}
 use Rattle.demo_lines.proofs.Consumed.{cut_end_after, refusal_on}
 use Rattle.demo_lines.proofs.Continuing.{continues}
 use Rattle.out_text.specs.Collecting.{Frames, collect, frames_of_events, no_frames}
-use Rattle.transcript_check.specs.Reading.{ahead_of}
 use Rattle.transcript_check.specs.Recorded.{is_last, ReadsRecording}
 use Rattle.transcript_check.specs.Verdicts.{StopsChecking}
 
@@ -53,19 +52,19 @@ collected-push es e before after so_far is =
 -- the source hasn't told its end, or it has, with the recording's
 abbrev TellsEnd : {S : Type 0} → sources.Ghosts S → (old new : DemoReaderView) → (source source' : S) → Event → Type 0
 TellsEnd s old new source source' e =
-    ((new.cut ≡ old.cut) × (s.ended source' ≡ s.ended source)) ⊎ ((e ≡ End) × (new.cut ≡ true) × IsAtEnd (ahead_of s new source'))
+    ((new.cut ≡ old.cut) × (s.ended source' ≡ s.ended source)) ⊎ ((e ≡ End) × (new.cut ≡ true) × IsAtEnd (ahead new.pending (s.left source')))
 
 -- no more was read than the last read had to give, or the recording's end without its line feed was taken
 abbrev IsAsNeeded : {S : Type 0} → sources.Ghosts S → (old new : DemoReaderView) → (source source' : S) → Event → Type 0
 IsAsNeeded s old new source source' e =
     (HasNotReadAhead source source' (s.last source') old.pending new.pending × (s.ended source' ≡ s.ended source))
-    ⊎ ((e ≡ End) × TakesCutEnd (ahead_of s old source) (ahead_of s new source') × (s.ended source' ≡ true))
+    ⊎ ((e ≡ End) × TakesCutEnd (ahead old.pending (s.left source)) (ahead new.pending (s.left source')) × (s.ended source' ≡ true))
 
 module _ {S : Type 0} (s : sources.Ghosts S) (limit : ℕ) where
   -- what was read so far gave some events, which made these frames, and the recording goes on
   pub record ReadsOn (first now : S) (demo : DemoReaderView) (frames : Frames) : Type 0 where
     pub events : List Event
-    pub reads : Reads (start_within limit) demo.reading (s.left first) (ahead_of s demo now) events
+    pub reads : Reads (start_within limit) demo.reading (s.left first) (ahead demo.pending (s.left now)) events
     pub frames_are : frames ≡ frames_of_events events
     pub is_open : IsOpen demo
     pub not_cut : demo.cut ≡ false
@@ -118,7 +117,7 @@ module _ {S : Type 0} (s : sources.Ghosts S) (limit : ℕ) where
     pub goes_on : (e : Event) (frames' : Frames) → GivesEvent s demo demo' now next e → frames' ≡ collect frames e → is_last e ≡ false → ReadsOn first next demo' frames'
     goes_on e frames' gives made going = record {
       events = on.events ++ e ∷ [];
-      reads = Reads-trans (start_within limit) demo.reading demo'.reading (s.left first) (ahead_of s demo now) (ahead_of s demo' next) on.events (e ∷ [])
+      reads = Reads-trans (start_within limit) demo.reading demo'.reading (s.left first) (ahead demo.pending (s.left now)) (ahead demo'.pending (s.left next)) on.events (e ∷ [])
           on.reads on.is_open.not_over (gives.event on.is_open);
       frames_are = collected-push on.events e frames frames' on.frames_are made;
       is_open = record { no_stop = gives.ok; not_over = ap is_over gives.stage ∙ going-stage e going };
@@ -134,7 +133,7 @@ module _ {S : Type 0} (s : sources.Ghosts S) (limit : ℕ) where
     pub ends : (e : Event) (frames' : Frames) → GivesEvent s demo demo' now next e → frames' ≡ collect frames e → is_last e ≡ true → ReadsRecording s limit first next demo' frames'
     ends e frames' gives made last = record {
       events = on.events ++ e ∷ [];
-      reads = Reads-trans (start_within limit) demo.reading demo'.reading (s.left first) (ahead_of s demo now) (ahead_of s demo' next) on.events (e ∷ [])
+      reads = Reads-trans (start_within limit) demo.reading demo'.reading (s.left first) (ahead demo.pending (s.left now)) (ahead demo'.pending (s.left next)) on.events (e ∷ [])
           on.reads on.is_open.not_over (gives.event on.is_open);
       frames_are = collected-push on.events e frames frames' on.frames_are made;
       ended = gives.stage ∙ ended-stage e last;
@@ -157,19 +156,19 @@ module _ {S : Type 0} (s : sources.Ghosts S) (limit : ℕ) where
     }
       where
         by_end : IsAsNeeded s demo demo' now next e
-            → (HasNotReadAhead first next (s.last next) [] demo'.pending × (s.ended next ≡ s.ended first)) ⊎ (TakesCutEnd (s.left first) (ahead_of s demo' next) × (s.ended next ≡ true))
+            → (HasNotReadAhead first next (s.last next) [] demo'.pending × (s.ended next ≡ s.ended first)) ⊎ (TakesCutEnd (s.left first) (ahead demo'.pending (s.left next)) × (s.ended next ≡ true))
         by_end (inl (needed, same)) = inl (HasNotReadAhead-trans s.last first now next [] demo.pending demo'.pending on.unread needed, same ∙ on.before_end)
         by_end (inr (is, cut, at)) =
-            inr (cut_end_after (start_within limit) demo.reading (s.left first) (ahead_of s demo now) (ahead_of s demo' next) on.events on.reads on.is_open.not_over cut, at)
+            inr (cut_end_after (start_within limit) demo.reading (s.left first) (ahead demo.pending (s.left now)) (ahead demo'.pending (s.left next)) on.events on.reads on.is_open.not_over cut, at)
 
     -- the reader stopped
     pub stops : (d : DemoStop) → IsStoppedBy s demo demo' now next d → StopsChecking s limit first next d
     stops (demo_stop.Refused line rule_fault rule) given =
         let why : LineRefusal = record { line = line; fault = rule_fault; rule = rule } in
         record {
-          faulty = continues (start_within limit) demo.reading (s.left first) (ahead_of s demo now) on.events (λ bytes. fault_within limit bytes ≡ Some why) on.reads
+          faulty = continues (start_within limit) demo.reading (s.left first) (ahead demo.pending (s.left now)) on.events (λ bytes. fault_within limit bytes ≡ Some why) on.reads
               (λ bytes rest is so. so.fault_is ∙ (subst (λ o. IfSome o (EndsAt demo.reading why)) is (given.refused.refused on.is_open)).fault);
-          read = refusal_on (start_within limit) s.last first now next demo.reading (s.left first) (ahead_of s demo now) (s.left next) on.events line demo.pending demo'.pending (s.ended next ≡ s.ended now)
+          read = refusal_on (start_within limit) s.last first now next demo.reading (s.left first) (ahead demo.pending (s.left now)) (s.left next) on.events line demo.pending demo'.pending (s.ended next ≡ s.ended now)
               (s.ended next ≡ s.ended first) (s.ended next ≡ true) on.reads on.unread (λ same. same ∙ on.before_end) (given.refused.taken on.is_open);
           reads = given.refused.uncounted ∙ on.uncounted;
         }

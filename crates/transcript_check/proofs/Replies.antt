@@ -7,16 +7,16 @@ use Rattle.world_tree.specs.Live.{record_at, live_in, AreEntries}
 use Rattle.world_tree.specs.Worlds.{WorldView, record_of}
 use Rattle.snapshot_write.specs.Snapshots.{snapshot}
 use Rattle.out_text.specs.FrameLines.{to_line}
-use Rattle.out_text.specs.OutLines.{OutLine, ToLine, line_spelling}
+use Rattle.out_text.specs.OutLines.{OutLine, ToLine}
 use Rattle.plain_server.specs.Replies.{players_in}
 use Rattle.plain_server.proofs.SlotPlayers.{players_are_first}
 
--- the line that is wanted is that of the player's snapshot
-pub reply-wanted : (w : WorldView) (frame slot : ℕ) (me : Rec) (bytes wanted : List ℕ) → AreEntries w.records → record_of w slot ≡ Some me
-    → IfSome (record_of w slot) (λ r. bytes ≡ snapshot frame r (live_in w.records)) → wanted ≡ line_spelling (ToLine slot bytes) → wanted ≡ line_spelling (to_line frame (live_in w.records) me)
-reply-wanted w frame slot me bytes wanted entries at written is =
+-- the line of what was written for a player is that of its snapshot
+pub reply-line : (w : WorldView) (frame slot : ℕ) (me : Rec) (bytes given : List ℕ) → AreEntries w.records → record_of w slot ≡ Some me
+    → IfSome (record_of w slot) (λ r. bytes ≡ snapshot frame r (live_in w.records)) → given ≡ bytes → ToLine slot given ≡ to_line frame (live_in w.records) me
+reply-line w frame slot me bytes given entries at written is =
     let shown : bytes ≡ snapshot frame me (live_in w.records) = subst (λ (o : Option Rec). IfSome o (λ r. bytes ≡ snapshot frame r (live_in w.records))) at written in
-    is ∙ ap (λ (bs : List ℕ). line_spelling (ToLine slot bs)) shown ∙ ap (λ (n : ℕ). line_spelling (ToLine n (snapshot frame me (live_in w.records)))) (sym (entries slot me at).own_id)
+    ap (λ (bs : List ℕ). ToLine slot bs) (is ∙ shown) ∙ ap (λ (n : ℕ). ToLine n (snapshot frame me (live_in w.records))) (sym (entries slot me at).own_id)
 
 -- ---- slot after slot
 

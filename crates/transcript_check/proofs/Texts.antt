@@ -119,7 +119,11 @@ missed-front a front more missed =
 pub missed-one : (a : Option (List ℕ)) (l : OutLine) → IfSome a (λ bytes. BeginsWith bytes (printed_line l) → ⊥) → IfSome a (λ bytes. BeginsWith bytes (text_of (l ∷ [])) → ⊥)
 missed-one a l missed = if_some-weaker a _ _ missed (λ bytes none begins. none (subst (BeginsWith bytes) (text_of-one l) begins))
 
--- ---- what holds where an answer is false
+-- ---- what holds where an answer is true, or false
+
+pub on_true-weaker : (b : Bool) (P Q : Type 0) → OnTrue b P → (P → Q) → OnTrue b Q
+on_true-weaker true P Q p then = then p
+on_true-weaker false P Q p then = tt
 
 pub on_false-weaker : (b : Bool) (P Q : Type 0) → OnFalse b P → (P → Q) → OnFalse b Q
 on_false-weaker true P Q p then = tt
@@ -142,7 +146,6 @@ left_cons {X = X} f xs i d inside = ap (map f) (drop-at xs i inside) ∙ ap (λ 
     drop-at (y ∷ ys) zero within = refl
     drop-at (y ∷ ys) (suc k) within = drop-at ys k (omega (arith, within))
 
-pub ok_true-both : {E : Type 0} (r : Result Bool E) (P Q T : Type 0) → IfOk r (λ is. OnTrue is P) → IfOk r (λ is. OnTrue is Q) → (P → Q → T) → IfOk r (λ is. OnTrue is T)
-ok_true-both (Ok true) P Q T p q then = then p q
-ok_true-both (Ok false) P Q T p q then = tt
-ok_true-both (Err e) P Q T p q then = tt
+pub ok_true-weaker : {E : Type 0} (r : Result Bool E) (P Q : Type 0) → IfOk r (λ is. OnTrue is P) → (P → Q) → IfOk r (λ is. OnTrue is Q)
+ok_true-weaker (Ok b) P Q p then = on_true-weaker b P Q p then
+ok_true-weaker (Err e) P Q p then = tt

@@ -8,19 +8,18 @@ use Rattle.entity_recs.specs.Histories.{entry_of, run}
 use Rattle.move_journal.specs.Merges.{IsRight, history_of}
 use Rattle.edge_io.specs.declared.source.Source as sources
 use Rattle.demo_lines.specs.declared.rest.TheConstants.{LONGEST_REST}
-use Rattle.demo_lines.specs.Reads.{DemoReaderView}
 use Rattle.arena_map.specs.Maps.{MapView}
 use Rattle.arena_outcomes.specs.Outcomes.{outcome_on}
 use Rattle.plain_server.specs.RecordsById.{world_of, records_in}
 use Rattle.plain_server.specs.Moving.{effect_among, records_after}
 use Rattle.out_text.specs.Dids.{did_of}
 use Rattle.client_ports.specs.Lists.{Lists}
-use Rattle.out_text.specs.FrameLines.{did_line, frame_lines}
+use Rattle.out_text.specs.FrameLines.{did_line}
 use Rattle.out_text.specs.OutLines.{OutLine, DidLine, line_spelling, printed_line}
 use Rattle.out_text.specs.Ranges.{IsInRange}
 use Rattle.out_text.specs.Transcripts.{BeginsWith}
-use Rattle.transcript_check.specs.Reading.{count_after, ReadsLines}
-use Rattle.transcript_check.specs.Pieces.{ReadsJournal}
+use Rattle.transcript_check.specs.Reading.{InputView, ReadsLines}
+use Rattle.transcript_check.specs.Pieces.{ReadsJournal, answers}
 
 -- the record is another one than that of this slot
 abbrev pub is_other : ℕ → Rec → Bool
@@ -63,33 +62,31 @@ ReportsNone map line records pending =
     → line ≡ line_spelling (move_line map records c) → ⊥
 
 -- the line of a move that is the next one of its player was read, and the move was run
-pub record TakesMove {S : Type 0} (s : sources.Ghosts S) (map : MapView) (old new : S) (demo demo' : DemoReaderView)
+pub record TakesMove {S : Type 0} (s : sources.Ghosts S) (map : MapView) (old new : S) (input input' : InputView)
     (records records' : List (Option Rec)) (pending pending' : List Command) : Type 0 where
   pub c : Command
   pub next : IsNextOf pending c pending'
-  pub reads : ReadsLines s old new demo demo' (move_line map records c ∷ [])
+  pub reads : ReadsLines s old new input input' (move_line map records c ∷ [])
   pub records_are : records' ≡ records_after map records c
 
 -- the lines of a journal of these moves were read: it is right, and the moves were run
-pub record RunsMoves {S : Type 0} (s : sources.Ghosts S) (map : MapView) (old new : S) (demo demo' : DemoReaderView)
-    (records records' : List (Option Rec)) (moves : List Command) (count count' : ℕ) : Type 0 where
+pub record RunsMoves {S : Type 0} (s : sources.Ghosts S) (map : MapView) (old new : S) (input input' : InputView)
+    (records records' : List (Option Rec)) (moves : List Command) : Type 0 where
   pub journal : List Entry
-  pub reads : ReadsJournal s old new demo demo' (IsRight (outcome_on map) (world_of records) moves) (map_list did_line) journal
+  pub reads : ReadsJournal s old new input input' (IsRight (outcome_on map) (world_of records) moves) (map_list did_line) journal
   pub records_are : records' ≡ records_in (run (outcome_on map) (world_of records) (history_of moves journal)) records
-  pub count_is : count' ≡ count_after count (length journal)
 
 -- the records after these moves have run in the order of a journal
 abbrev pub moved_in : MapView → List (Option Rec) → List Command → List Entry → List (Option Rec)
 moved_in map records moves journal = records_in (run (outcome_on map) (world_of records) (history_of moves journal)) records
 
--- the lines of a frame with this journal, whose moves run among these records
-abbrev pub lines_among : MapView → ℕ → List (Option Rec) → Lists → List Entry → List OutLine
-lines_among map frame records lists journal = frame_lines frame lists journal (moved_in map records lists.moves journal)
+-- the lines of a frame after its first, with this journal, whose moves run among these records
+abbrev pub answers_among : MapView → ℕ → List (Option Rec) → Lists → List Entry → List OutLine
+answers_among map frame records lists journal = answers frame lists journal (moved_in map records lists.moves journal)
 
--- the lines of a frame were read, with a right journal, and its moves were run
-pub record RunsFrame {S : Type 0} (s : sources.Ghosts S) (map : MapView) (frame : ℕ) (lists : Lists) (old new : S) (demo demo' : DemoReaderView)
-    (records records' : List (Option Rec)) (count count' : ℕ) : Type 0 where
+-- these lines were read, with a right journal, and the moves were run
+pub record RunsAnswers {S : Type 0} (s : sources.Ghosts S) (map : MapView) (frame : ℕ) (lists : Lists) (old new : S) (input input' : InputView)
+    (records records' : List (Option Rec)) : Type 0 where
   pub journal : List Entry
-  pub reads : ReadsJournal s old new demo demo' (IsRight (outcome_on map) (world_of records) lists.moves) (lines_among map frame records lists) journal
+  pub reads : ReadsJournal s old new input input' (IsRight (outcome_on map) (world_of records) lists.moves) (answers_among map frame records lists) journal
   pub records_are : records' ≡ moved_in map records lists.moves journal
-  pub count_is : count' ≡ count_after count (length (lines_among map frame records lists journal))

@@ -1,20 +1,20 @@
 -- What reading the lines of a transcript takes off what is ahead.
-use Rattle.std.specs.Prelude.{◌≡◌, ℕ, zero, suc, ◌+◌, ◌-◌, ◌^◌, ◌≤◌, true, false, min, List, ◌++◌, Option, IfSome}
+use Rattle.std.specs.Prelude.{◌≡◌, ℕ, zero, suc, ◌+◌, ◌-◌, ◌^◌, ◌≤◌, true, false, min, List, ◌++◌, length, Option, IfSome}
 use Rattle.std.specs.Io.KnownBytes.{Consumes}
 use Rattle.edge_io.specs.declared.source.Source as sources
 use Rattle.edge_io.specs.Counts.{HasRisen}
 use Rattle.edge_io.specs.Lines.{ahead, HasNotReadAhead}
 use Rattle.demo_lines.specs.declared.demo_stop.DemoStop.{DemoStop}
 use Rattle.demo_lines.specs.declared.demo_stop.DemoStop.TheVariants as demo_stop
+use Rattle.demo_lines.specs.declared.stage.Stage.TheVariants.{Ended}
 use Rattle.demo_lines.specs.Reads.{DemoReaderView}
 use Rattle.demo_lines.specs.Rest.{HasRest, GivesRestLine, TakesLineAtMost}
 use Rattle.out_text.specs.OutLines.{OutLine, text_of}
 
--- the line that was read last, the line that is wanted, the snapshot that was written last, and how many lines were read
-pub record LinesView : Type 0 where
+-- what follows a recording: its reader, the line that was read last, and how many lines were read
+pub record InputView : Type 0 where
+  pub demo : DemoReaderView
   pub given : List ℕ
-  pub wanted : List ℕ
-  pub bytes : List ℕ
   pub count : ℕ
 
 -- a count of lines after so many more; it stops at 2^64 - 1
@@ -32,55 +32,62 @@ pub record TakesBeginning (Wanted : List OutLine → Type 0) (old new : Option (
   pub last : TakesLineAtMost left new P Q
 
 module _ {S : Type 0} (s : sources.Ghosts S) where
-  -- what is ahead of the reader
-  abbrev pub ahead_of : DemoReaderView → S → Option (List ℕ)
-  ahead_of demo source = ahead demo.pending (s.left source)
+  -- what is ahead
+  abbrev pub ahead_of : InputView → S → Option (List ℕ)
+  ahead_of input source = ahead input.demo.pending (s.left source)
+
+  -- more lines may be read: the recording has ended, and no read has failed
+  pub record MayRead (input : InputView) (source : S) : Type 0 where
+    pub over : input.demo.reading.stage ≡ Ended
+    pub rest : HasRest input.demo (ahead_of input source)
 
   -- no more was read than the last read had to give, and the source hasn't told its end
-  abbrev pub IsNeeded : (old new : S) → (demo demo' : DemoReaderView) → Type 0
-  IsNeeded old new demo demo' =
-      HasNotReadAhead old new (s.last new) demo.pending demo'.pending × (s.ended new ≡ s.ended old)
+  abbrev pub IsNeeded : (old new : S) → (input input' : InputView) → Type 0
+  IsNeeded old new input input' =
+      HasNotReadAhead old new (s.last new) input.demo.pending input'.demo.pending × (s.ended new ≡ s.ended old)
 
   -- no read failed, no more was read than the last read had to give, the source hasn't told its end, and more lines may
   -- follow where they might before
-  pub record GoesOn (old new : S) (demo demo' : DemoReaderView) : Type 0 where
-    pub may : HasRest demo' (ahead_of demo' new)
-    pub same : demo'.reading ≡ demo.reading
-    pub cut : demo'.cut ≡ demo.cut
-    pub unread : HasNotReadAhead old new (s.last new) demo.pending demo'.pending
+  pub record GoesOn (old new : S) (input input' : InputView) : Type 0 where
+    pub may : MayRead input' new
+    pub same : input'.demo.reading ≡ input.demo.reading
+    pub cut : input'.demo.cut ≡ input.demo.cut
+    pub unread : HasNotReadAhead old new (s.last new) input.demo.pending input'.demo.pending
     pub before_end : s.ended new ≡ s.ended old
     pub uncounted : s.faults new ≡ s.faults old
     pub keeps : s.never_fails old → s.never_fails new
 
   -- a line was read
-  pub record ReadsLine (old new : S) (demo demo' : DemoReaderView) (line : List ℕ) : Type 0 where
-    pub gives : GivesRestLine (ahead_of demo old) (ahead_of demo' new) line
-    pub on : GoesOn old new demo demo'
+  pub record ReadsLine (old new : S) (input input' : InputView) : Type 0 where
+    pub gives : GivesRestLine (ahead_of input old) (ahead_of input' new) input'.given
+    pub on : GoesOn old new input input'
+    pub count_is : input'.count ≡ count_after input.count 1
 
   -- these lines were read
-  pub record ReadsLines (old new : S) (demo demo' : DemoReaderView) (lines : List OutLine) : Type 0 where
-    pub consumed : Consumes (ahead_of demo old) (ahead_of demo' new) (text_of lines)
-    pub on : GoesOn old new demo demo'
+  pub record ReadsLines (old new : S) (input input' : InputView) (lines : List OutLine) : Type 0 where
+    pub consumed : Consumes (ahead_of input old) (ahead_of input' new) (text_of lines)
+    pub on : GoesOn old new input input'
+    pub count_is : input'.count ≡ count_after input.count (length lines)
 
   -- one line at most was read, or what the input ended with
-  abbrev pub ReadsOneAtMost : (old new : S) → (demo demo' : DemoReaderView) → Type 0
-  ReadsOneAtMost old new demo demo' =
-      TakesLineAtMost (ahead_of demo old) (ahead_of demo' new) (IsNeeded old new demo demo') (s.ended new ≡ true)
+  abbrev pub ReadsOneAtMost : (old new : S) → (input input' : InputView) → Type 0
+  ReadsOneAtMost old new input input' =
+      TakesLineAtMost (ahead_of input old) (ahead_of input' new) (IsNeeded old new input input') (s.ended new ≡ true)
 
   -- the first of some lines that are wanted were read, and then one line at most, or what the input ended with
-  abbrev pub ReadsBeginning : (Wanted : List OutLine → Type 0) → (old new : S) → (demo demo' : DemoReaderView) → Type 0
-  ReadsBeginning Wanted old new demo demo' =
-      TakesBeginning Wanted (ahead_of demo old) (ahead_of demo' new) (IsNeeded old new demo demo') (s.ended new ≡ true)
+  abbrev pub ReadsBeginning : (Wanted : List OutLine → Type 0) → (old new : S) → (input input' : InputView) → Type 0
+  ReadsBeginning Wanted old new input input' =
+      TakesBeginning Wanted (ahead_of input old) (ahead_of input' new) (IsNeeded old new input input') (s.ended new ≡ true)
 
   -- no read failed, and P of what was ahead
-  pub record Misses (old new : S) (demo : DemoReaderView) (P : List ℕ → Type 0) : Type 0 where
-    pub missed : IfSome (ahead_of demo old) P
+  pub record Misses (old new : S) (input : InputView) (P : List ℕ → Type 0) : Type 0 where
+    pub missed : IfSome (ahead_of input old) P
     pub uncounted : s.faults new ≡ s.faults old
 
   -- a read failed, where the input hadn't ended with the recording, and the source hasn't told its end
-  pub record ReadFails (old new : S) (demo : DemoReaderView) (stop : DemoStop) : Type 0 where
+  pub record ReadFails (old new : S) (input : InputView) (stop : DemoStop) : Type 0 where
     pub is : stop ≡ demo_stop.ReadFault
-    pub not_cut : demo.cut ≡ false
+    pub not_cut : input.demo.cut ≡ false
     pub before_end : s.ended new ≡ s.ended old
     pub fault : HasRisen (s.faults old) (s.faults new)
     pub later : s.faults old ≤ s.faults new

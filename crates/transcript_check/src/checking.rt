@@ -1,10 +1,8 @@
 ghost use Rattle.std.specs.Prelude.{◌≡◌, ◌<◌, ◌≤◌, ◌^◌, true, length, map, IfOk, IfErr};
 ghost use Rattle.std.specs.List.{AllByRecursion};
 ghost use Rattle.arena_map.specs.declared.limits.TheConstants.{MOST_FRAMES};
-ghost use Rattle.demo_lines.specs.declared.stage.Stage.TheVariants.{Ended};
 ghost use Rattle.demo_lines.specs.Reads.{fresh_within};
-ghost use Rattle.demo_lines.specs.Rest.{HasRest};
-ghost use Rattle.transcript_check.specs.Reading.{ahead_of, IsNeeded, Misses, ReadFails};
+ghost use Rattle.transcript_check.specs.Reading.{ahead_of, MayRead, IsNeeded, Misses, ReadFails};
 ghost use Rattle.transcript_check.specs.Looked.{LooksAt};
 ghost use Rattle.transcript_check.specs.Checkers.{new_checker, IsChecker};
 ghost use Rattle.transcript_check.specs.Verdicts.{IsShort, IsVerdict, Judges, StopsChecking};
@@ -22,31 +20,30 @@ fn compare<S: Source>(
     checker: &mut Checker,
     frames: &[Vec<Arrival>],
     before: u64,
-    reader: &mut DemoReader,
     source: &mut S,
 ) -> Result<Verdict, DemoStop>
-    requires new { checker.old ≡ new_checker checker.old.map }
+    requires new { checker.old ≡ new_checker checker.old.map checker.old.input }
+    requires first { checker.old.input.count ≡ 0 }
     requires is { IsChecker checker.old.map checker.old.state }
     requires few { length frames.now ≤ MOST_FRAMES }
     requires short { AllByRecursion IsShort (map (λ arrivals. arrivals.items) frames.now) }
     requires before { before < 2 ^ 62 }
-    requires over { reader.old.reading.stage ≡ Ended }
-    requires may { HasRest reader.old (ahead_of S.Source reader.old source.old) }
-    ensures ok { IfOk result (λ verdict. Misses S.Source source.old source.new reader.old (λ bytes.
+    requires may { MayRead S.Source checker.old.input source.old }
+    ensures ok { IfOk result (λ verdict. Misses S.Source source.old source.new checker.old.input (λ bytes.
         IsVerdict checker.old.map (map (λ arrivals. arrivals.items) frames.now) bytes before verdict)) }
     ensures looked { IfOk result (λ verdict. LooksAt verdict checker.old.map (map (λ arrivals. arrivals.items) frames.now)
-        (ahead_of S.Source reader.old source.old) (ahead_of S.Source reader.new source.new)
-        (IsNeeded S.Source source.old source.new reader.old reader.new) (S.ended source.new ≡ true)) }
-    ensures err { IfErr result (ReadFails S.Source source.old source.new reader.old) }
+        (ahead_of S.Source checker.old.input source.old) (ahead_of S.Source checker.new.input source.new)
+        (IsNeeded S.Source source.old source.new checker.old.input checker.new.input) (S.ended source.new ≡ true)) }
+    ensures err { IfErr result (ReadFails S.Source source.old source.new checker.old.input) }
 {
     for arrivals in frames {
         let line = before + checker.lines() + 1;
-        if !checker.expect_frame(arrivals.as_slice(), reader, source)? {
+        if !checker.expect_frame(arrivals.as_slice(), source)? {
             return Ok(Verdict::Wrong { line });
         }
     }
     let line = before + checker.lines() + 1;
-    if !checker.expect_end(reader, source)? {
+    if !checker.expect_end(source)? {
         return Ok(Verdict::Wrong { line });
     }
     Ok(Verdict::Right {
@@ -65,17 +62,17 @@ fn compare<S: Source>(
 /// last line ends in.
 pub fn check<S: Source>(
     alloc: Global,
-    reader: &mut DemoReader,
+    mut reader: DemoReader,
     source: &mut S,
 ) -> Result<Verdict, DemoStop>
-    requires fresh { reader.old ≡ fresh_within reader.old.reading.limit }
-    requires limit { reader.old.reading.limit ≤ MOST_FRAMES }
-    ensures ok { IfOk result (Judges S.Source reader.old.reading.limit source.old source.new) }
-    ensures err { IfErr result (StopsChecking S.Source reader.old.reading.limit source.old source.new) }
+    requires fresh { reader ≡ fresh_within reader.reading.limit }
+    requires limit { reader.reading.limit ≤ MOST_FRAMES }
+    ensures ok { IfOk result (Judges S.Source reader.reading.limit source.old source.new) }
+    ensures err { IfErr result (StopsChecking S.Source reader.reading.limit source.old source.new) }
 {
-    let recorded = read_recording(alloc, reader, source)?;
+    let recorded = read_recording(alloc, &mut reader, source)?;
     let before = reader.end_line();
     let map = reader.take_map().unwrap();
-    let mut checker = Checker::new(alloc, map)?;
-    compare(&mut checker, recorded.frames(), before, reader, source)
+    let mut checker = Checker::new(alloc, map, reader)?;
+    compare(&mut checker, recorded.frames(), before, source)
 }

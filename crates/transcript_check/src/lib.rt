@@ -10,6 +10,8 @@ pub use verdict::Verdict;
 
 mod checker;
 mod checking;
+mod comparison;
+mod input;
 mod laws;
 mod lines;
 mod mover;

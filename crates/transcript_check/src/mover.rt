@@ -42,7 +42,8 @@ fn put_if_other(r: Rec, slot: u16, others: &mut OtherList)
 /// Puts the record with this id last, if it is live and another one.
 fn put_other(world: &World, id: u16, slot: u16, others: &mut OtherList)
     requires { length others.old < IDS }
-    ensures { others.new ≡ others.old ++ filter (is_other slot) (option_to_list (record_of world.now id)) }
+    ensures put { others.new ≡ others.old ++ filter (is_other slot) (option_to_list (record_of world.now id)) }
+    ensures linked { IsLinked world.now }
 {
     let Some(r) = world.get(id) else {
         return;
@@ -55,8 +56,6 @@ fn list_others(world: &World, slot: u16, others: &mut OtherList)
     ensures others { others.new ≡ others_of (world_of world.now.records) slot }
     ensures linked { IsLinked world.now }
 {
-    // To ask for the tree is to know that the world is linked, and so that it has a place for each id.
-    let _linked = world.tree();
     others.clear();
     for id in 0..IDS as u16 {
         put_other(world, id, slot, others);
@@ -90,7 +89,7 @@ fn put_states(world: &mut World, states: &[NewState])
     }
 }
 
-/// The record of a live player. To read it is to know that its score is a number of 32 bits.
+/// The record of a live player.
 fn player_in(world: &World, slot: u8) -> Rec
     requires { IsSome (record_of world.now slot) }
     ensures player { record_of world.now slot ≡ Some result }

@@ -25,8 +25,8 @@ fn verdict_of<S: Source>(alloc: Global, source: &mut S) -> Result<Verdict, DemoS
     ensures ok { IfOk result (Judges S.Source MOST_CHECKED_FRAMES source.old source.new) }
     ensures err { IfErr result (StopsChecking S.Source MOST_CHECKED_FRAMES source.old source.new) }
 {
-    let mut reader = DemoReader::with_frame_limit(alloc, MOST_CHECKED_FRAMES)?;
-    check(alloc, &mut reader, source)
+    let reader = DemoReader::with_frame_limit(alloc, MOST_CHECKED_FRAMES)?;
+    check(alloc, reader, source)
 }
 
 /// Writes the line of a right transcript, whose buffer is empty.

@@ -1,47 +1,65 @@
-use Rattle.std.proofs.Common.{◌+◌, length, refl, sym, ap, ◌∙◌}
-use Rattle.std.proofs.lemmas.List.{length-map}
-use Rattle.entity_recs.specs.Commands.{command_of}
-use Rattle.arena_actions.specs.MapActions.{map_in}
-use Rattle.transcript_check.proofs.FrameTaken.{is-here, frame-missed, frame-looked, live-still, frame-taken}
+use Rattle.std.proofs.Common.{◌∷◌, [], ◌<◌, ◌≤◌, ◌*◌, IfOk, sym, subst}
+use Rattle.std.specs.Bool.{OnTrue, OnFalse}
+use Rattle.arena_map.specs.declared.limits.TheConstants.{MOST_FRAMES}
+use Rattle.client_ports.specs.declared.received.TheConstants.{MOST_FRAME_MOVES}
+use Rattle.out_text.specs.FrameLines.{lines_with}
+use Rattle.out_text.specs.OutLines.{FrameLine, printed_line}
+use Rattle.out_text.specs.Transcripts.{BeginsWith}
+use Rattle.transcript_check.specs.Reading.{ReadsLines, Misses}
+use Rattle.transcript_check.specs.Checkers.{CheckerView, IsChecker}
+use Rattle.transcript_check.specs.Pieces.{TakesFrame, MissesFrame, BeginsFrame, answers_with}
+use Rattle.transcript_check.proofs.Texts.{ok_true-weaker, ok_false-weaker}
+use Rattle.transcript_check.proofs.FrameTaken.{lines-follow, first-missed, first-looked, frame-missed, frame-looked, frame-taken}
 use Rattle.transcript_check.proofs.checker.Checker.expect_frame.Goals as goal
 
-pub expect_lines-requires-clause-valid : goal.expect_lines-requires-clause-valid
-expect_lines-requires-clause-valid g c =
-    (is-here c.args.self.now _ c.map.result.now c.args.arrivals.now _ c.self.view_is c.requires.is c.map.ensures.value c.receive.ensures.received).pass.state.fits.valid
+pub expect_answers-requires-clause-is : goal.expect_answers-requires-clause-is
+expect_answers-requires-clause-is g c = subst (λ (u : CheckerView). IsChecker u.map u.state) (sym c.in_ok-expect.ensures.server) c.requires.is
 
-pub expect_lines-requires-clause-live : goal.expect_lines-requires-clause-live
-expect_lines-requires-clause-live g c =
-    (is-here c.args.self.now _ c.map.result.now c.args.arrivals.now _ c.self.view_is c.requires.is c.map.ensures.value c.receive.ensures.received).pass.live
+pub expect_answers-requires-clause-frames : goal.expect_answers-requires-clause-frames
+expect_answers-requires-clause-frames g c = subst (λ (u : CheckerView). u.frames < MOST_FRAMES) (sym c.in_ok-expect.ensures.server) c.requires.frames
 
-pub expect_lines-requires-clause-apart : goal.expect_lines-requires-clause-apart
-expect_lines-requires-clause-apart g c =
-    (is-here c.args.self.now _ c.map.result.now c.args.arrivals.now _ c.self.view_is c.requires.is c.map.ensures.value c.receive.ensures.received).pass.apart
+pub expect_answers-requires-clause-moves : goal.expect_answers-requires-clause-moves
+expect_answers-requires-clause-moves g c = subst (λ (u : CheckerView). u.moves ≤ MOST_FRAME_MOVES * u.frames) (sym c.in_ok-expect.ensures.server) c.requires.moves
 
-pub expect_lines-requires-clause-few : goal.expect_lines-requires-clause-few
-expect_lines-requires-clause-few g c =
-    (is-here c.args.self.now _ c.map.result.now c.args.arrivals.now _ c.self.view_is c.requires.is c.map.ensures.value c.receive.ensures.received).few
+pub returns-then-not-branch-clause-missed : goal.returns-then-not-branch-clause-missed
+returns-then-not-branch-clause-missed g c =
+    let was = c.args.self.now in
+    first-missed g.S.Source lines_with answers_with c.args.source.now c.expect.new.source was c.args.arrivals.now (FrameLine was.frames) (lines-follow was c.args.arrivals.now)
+    (subst (λ n. Misses g.S.Source c.args.source.now c.expect.new.source was.input (λ bytes. BeginsWith bytes (printed_line (FrameLine n)) → ⊥)) c.frames.ensures (rw c.if-not-branch.true at c.in_ok-expect.ensures.missed))
 
-pub returns-then-not-is_right-clause-missed : goal.returns-then-not-is_right-clause-missed
-returns-then-not-is_right-clause-missed g c =
-    let here = is-here c.args.self.now _ c.map.result.now c.args.arrivals.now _ c.self.view_is c.requires.is c.map.ensures.value c.receive.ensures.received in
-    frame-missed g.S.Source c.args.source.now c.expect_lines.new.source c.args.reader.now c.expect_lines.new.reader c.args.self.now _ c.self.view_is c.args.arrivals.now _ here
-    (rw c.if-not-is_right.true at c.in_ok-is_right.ensures.missed)
-
-pub finish-requires : goal.finish-requires
-finish-requires g c =
-    let here = is-here c.args.self.now _ c.map.result.now c.args.arrivals.now _ c.self.view_is c.requires.is c.map.ensures.value c.receive.ensures.received in
-    live-still g.S.Source c.args.source.now c.expect_lines.new.source c.args.reader.now c.expect_lines.new.reader c.args.self.now _ c.self.view_is c.args.arrivals.now _ here _ _
-    (rw c.if-not-is_right.false at c.in_ok-is_right.ensures.ok)
+pub returns-then-not-branch-clause-looked : goal.returns-then-not-branch-clause-looked
+returns-then-not-branch-clause-looked g c =
+    first-looked g.S.Source lines_with c.args.source.now c.expect.new.source c.args.self.now c.expect.new.self c.args.arrivals.now (rw c.if-not-branch.true at c.in_ok-expect.ensures.looked)
 
 pub returns-clause-ok : goal.returns-clause-ok
 returns-clause-ok g c =
-    let here = is-here c.args.self.now _ c.map.result.now c.args.arrivals.now _ c.self.view_is c.requires.is c.map.ensures.value c.receive.ensures.received in
-    frame-taken g.S.Source c.args.source.now c.expect_lines.new.source c.args.reader.now c.expect_lines.new.reader c.args.self.now _ c.self.view_is c.args.arrivals.now _ here _ _
-    (rw c.if-not-is_right.false at c.in_ok-is_right.ensures.ok) _ c.requires.few (ap map_in c.in_ok-is_right.ensures.action) c.finish.ensures.finished refl
-    (ap (λ n. c.self.inside.moves + n) (sym (length-map c.moves.result.now command_of) ∙ ap length c.moves.ensures)) refl
+    let was = c.args.self.now in
+    let arrivals = c.args.arrivals.now in
+    let first = subst (λ n. ReadsLines g.S.Source c.args.source.now c.expect.new.source was.input c.expect.new.self.input (FrameLine n ∷ [])) c.frames.ensures (rw c.if-not-branch.false at c.in_ok-expect.ensures.ok) in
+    ok_true-weaker c.expect_answers.result _ _
+    (subst (λ (u : CheckerView). IfOk c.expect_answers.result (λ is. OnTrue is (TakesFrame g.S.Source answers_with c.expect.new.source c.expect_answers.new.source u c.expect_answers.new.self arrivals)))
+    c.in_ok-expect.ensures.server c.expect_answers.ensures.ok)
+    (frame-taken g.S.Source lines_with answers_with c.args.source.now c.expect.new.source was c.expect.new.self.input arrivals (FrameLine was.frames ∷ []) (lines-follow was arrivals) first
+    c.expect_answers.new.source c.expect_answers.new.self)
 
-pub returns-then-not-is_right-clause-looked : goal.returns-then-not-is_right-clause-looked
-returns-then-not-is_right-clause-looked g c =
-    let here = is-here c.args.self.now _ c.map.result.now c.args.arrivals.now _ c.self.view_is c.requires.is c.map.ensures.value c.receive.ensures.received in
-    frame-looked g.S.Source c.args.source.now c.expect_lines.new.source c.args.reader.now c.expect_lines.new.reader c.args.self.now _ c.self.view_is c.args.arrivals.now _ here
-    (rw c.if-not-is_right.true at c.in_ok-is_right.ensures.looked)
+pub returns-clause-missed : goal.returns-clause-missed
+returns-clause-missed g c =
+    let was = c.args.self.now in
+    let arrivals = c.args.arrivals.now in
+    let first = subst (λ n. ReadsLines g.S.Source c.args.source.now c.expect.new.source was.input c.expect.new.self.input (FrameLine n ∷ [])) c.frames.ensures (rw c.if-not-branch.false at c.in_ok-expect.ensures.ok) in
+    ok_false-weaker c.expect_answers.result _ _
+    (subst (λ (u : CheckerView). IfOk c.expect_answers.result (λ is. OnFalse is (MissesFrame g.S.Source answers_with c.expect.new.source c.expect_answers.new.source u arrivals)))
+    c.in_ok-expect.ensures.server c.expect_answers.ensures.missed)
+    (frame-missed g.S.Source lines_with answers_with c.args.source.now c.expect.new.source was c.expect.new.self.input arrivals (FrameLine was.frames ∷ []) (lines-follow was arrivals) first
+    c.expect_answers.new.source)
+
+pub returns-clause-looked : goal.returns-clause-looked
+returns-clause-looked g c =
+    let was = c.args.self.now in
+    let arrivals = c.args.arrivals.now in
+    let first = subst (λ n. ReadsLines g.S.Source c.args.source.now c.expect.new.source was.input c.expect.new.self.input (FrameLine n ∷ [])) c.frames.ensures (rw c.if-not-branch.false at c.in_ok-expect.ensures.ok) in
+    ok_false-weaker c.expect_answers.result _ _
+    (subst (λ (u : CheckerView). IfOk c.expect_answers.result (λ is. OnFalse is (BeginsFrame g.S.Source answers_with c.expect.new.source c.expect_answers.new.source u c.expect_answers.new.self arrivals)))
+    c.in_ok-expect.ensures.server c.expect_answers.ensures.looked)
+    (frame-looked g.S.Source lines_with answers_with c.args.source.now c.expect.new.source was c.expect.new.self.input arrivals (FrameLine was.frames ∷ []) (lines-follow was arrivals) first
+    c.expect_answers.new.source c.expect_answers.new.self)

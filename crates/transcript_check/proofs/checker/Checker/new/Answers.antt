@@ -8,7 +8,7 @@ use Rattle.transcript_check.proofs.checker.Checker.new.Goals as goal
 
 pub returns-clause-is : goal.returns-clause-is
 returns-clause-is c =
-    let map = (map_in c.new-mover.result.action) in
+    let map = map_in c.in_ok-comparison.comparison.mover.action in
     let rules : IsMap map = subst IsMap c.map-arena.ensures.value c.opening.ensures.rules in
     record {
       is_map = rules;
