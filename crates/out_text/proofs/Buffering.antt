@@ -149,10 +149,6 @@ text_of-answers a b c d =
     ∙ append_assoc (text_of a) (text_of b) (text_of c ++ text_of d)
     ∙ ap (λ l. text_of a ++ (text_of b ++ (text_of c ++ l))) (sym (append-nil (text_of d)))
 
--- of a line and a list of lines
-pub text_of-two : (first : OutLine) (a : List OutLine) → text_of (first ∷ a) ≡ printed_line first ++ (text_of a ++ [])
-text_of-two first a = ap (λ l. printed_line first ++ l) (sym (append-nil (text_of a)))
-
--- and of a line and two lists
+-- of a line and two lists
 pub text_of-three : (first : OutLine) (a b : List OutLine) → text_of (first ∷ (a ++ b)) ≡ printed_line first ++ (text_of a ++ (text_of b ++ []))
 text_of-three first a b = ap (λ l. printed_line first ++ l) (flat_map-append printed_line a b ∙ ap (λ l. text_of a ++ l) (sym (append-nil (text_of b))))

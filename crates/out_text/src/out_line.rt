@@ -1,12 +1,14 @@
 ghost use Rattle.std.specs.Prelude.{◌≡◌};
 ghost use Rattle.out_text.specs.OutLines as lines;
 ghost use Rattle.out_text.specs.FrameLines.{no_line, joined_line, did_line};
+ghost use Rattle.out_text.specs.Feeds.{from_line};
 ghost use Rattle.out_text.specs.Printing.{line_of};
 ghost use Rattle.out_text.specs.Ranges.{HasRoom};
 
 use arena_geo::Vec3;
 use client_ports::{Joined, Refusal, Refused};
 use entity_recs::{Entry, IdList};
+use packet_read::Arrival;
 
 // A line owns the ids got, since a reader of lines has no entry to borrow them from.
 /// One line of the output.
@@ -62,19 +64,27 @@ pub trait Printed {
     // The line.
     ghost line: { Self → lines.OutLine };
 
-    /// The line, which borrows nothing.
-    fn line(&self) -> OutLine<'static>
+    /// The line.
+    fn line(&self) -> OutLine<'_>
         ensures is { line_of result ≡ line self.now }
         ensures room { HasRoom (line_of result) };
+}
+
+impl Printed for Arrival {
+    ghost line = { from_line };
+
+    fn line(&self) -> OutLine<'_> {
+        OutLine::From {
+            port: self.port,
+            bytes: self.bytes.as_slice(),
+        }
+    }
 }
 
 impl Printed for Refused {
     ghost line = { no_line };
 
-    fn line(&self) -> OutLine<'static>
-        ensures is { line_of result ≡ no_line self.now }
-        ensures room { HasRoom (line_of result) }
-    {
+    fn line(&self) -> OutLine<'_> {
         OutLine::No {
             place: self.place,
             why: self.why,
@@ -85,10 +95,7 @@ impl Printed for Refused {
 impl Printed for Joined {
     ghost line = { joined_line };
 
-    fn line(&self) -> OutLine<'static>
-        ensures is { line_of result ≡ joined_line self.now }
-        ensures room { HasRoom (line_of result) }
-    {
+    fn line(&self) -> OutLine<'_> {
         OutLine::Joined {
             port: self.port,
             slot: self.slot,
@@ -111,10 +118,7 @@ fn copy_of(ids: &IdList) -> IdList
 impl Printed for Entry {
     ghost line = { did_line };
 
-    fn line(&self) -> OutLine<'static>
-        ensures is { line_of result ≡ did_line self.now }
-        ensures room { HasRoom (line_of result) }
-    {
+    fn line(&self) -> OutLine<'_> {
         OutLine::Did {
             slot: self.slot,
             seq: self.seq,

@@ -1,7 +1,7 @@
 ghost use Rattle.std.specs.Prelude.{◌≡◌, ◌+◌, ◌≤◌, [], ◌++◌, length, map, All, IfOk, OnOk, OnErr, IsOk};
 ghost use Rattle.out_text.specs.OutLines.{printed_line, text_of};
 ghost use Rattle.out_text.specs.FrameLines.{reply_lines, answer_lines, given_lines};
-ghost use Rattle.out_text.specs.Feeds.{from_line, with_froms};
+ghost use Rattle.out_text.specs.Feeds.{with_froms};
 ghost use Rattle.out_text.specs.Printing.{line_of};
 ghost use Rattle.out_text.specs.Printers.{Prints, FailsIn};
 ghost use Rattle.out_text.specs.Ranges.{HasRoom};
@@ -86,24 +86,6 @@ impl Printer {
         Ok(())
     }
 
-    /// Prints the line of each of these packets.
-    fn print_froms<K: Sink>(&mut self, arrivals: &[Arrival], sink: &mut K) -> Result<(), Failed>
-        ensures ok { OnOk result (Prints K.taken K.faults K.room sink.old sink.new self.old self.new
-            (text_of (map from_line arrivals.now))) }
-        ensures err { OnErr result
-            (FailsIn K.taken K.faults sink.old sink.new (self.old ++ text_of (map from_line arrivals.now))) }
-        ensures sure { length self.old + length (text_of (map from_line arrivals.now)) ≤ K.room sink.old
-            → IsOk result }
-        ensures emptied { OnErr result (self.new ≡ []) }
-    {
-        for arrival in arrivals {
-            let bytes = arrival.bytes.as_slice();
-            let port = arrival.port;
-            self.print(&OutLine::From { port, bytes }, sink)?;
-        }
-        Ok(())
-    }
-
     /// Prints the line of the reply to each of these slots.
     fn print_replies<K: Sink>(
         &mut self,
@@ -179,8 +161,7 @@ impl Printer {
             → IsOk result }
         ensures emptied { OnErr result (self.new ≡ []) }
     {
-        self.print(&OutLine::Frame(frame), sink)?;
-        self.print_answers(received, journal, slots, replies, sink)
+        self.print_fed_frame(frame, &[], received, journal, slots, replies, sink)
     }
 
     /// Prints the lines of a frame as [`Printer::print_frame`] does, with those of its packets after the first, in this
@@ -210,7 +191,7 @@ impl Printer {
         ensures emptied { OnErr result (self.new ≡ []) }
     {
         self.print(&OutLine::Frame(frame), sink)?;
-        self.print_froms(arrivals, sink)?;
+        self.print_each(arrivals, sink)?;
         self.print_answers(received, journal, slots, replies, sink)
     }
 }

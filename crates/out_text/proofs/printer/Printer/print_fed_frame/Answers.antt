@@ -27,8 +27,8 @@ returns-in_err-print-clause-sure g c =
     let begun = begins_printing g.K.Sink.taken g.K.Sink.faults g.K.Sink.room c.args.sink.now c.args.self.now all first (middle ++ (rest ++ [])) (text_of-three (FrameLine c.args.frame) froms lines) in
     λ fits. not_failed (c.in_err-print.ensures.sure (has_room g.K.Sink.taken g.K.Sink.faults g.K.Sink.room _ _ _ _ first all (middle ++ (rest ++ [])) begun fits))
 
-pub returns-in_err-print_froms-clause-err : goal.returns-in_err-print_froms-clause-err
-returns-in_err-print_froms-clause-err g c =
+pub returns-in_err-print_each-clause-err : goal.returns-in_err-print_each-clause-err
+returns-in_err-print_each-clause-err g c =
     let first = printed_line (FrameLine c.args.frame) in
     let froms = map from_line c.args.arrivals.now in
     let lines = answer_lines c.args.received.now.lists c.args.journal.now c.args.slots.now c.args.replies.now in
@@ -37,10 +37,10 @@ returns-in_err-print_froms-clause-err g c =
     let all = text_of (FrameLine c.args.frame ∷ (froms ++ lines)) in
     let begun = begins_printing g.K.Sink.taken g.K.Sink.faults g.K.Sink.room c.args.sink.now c.args.self.now all first (middle ++ (rest ++ [])) (text_of-three (FrameLine c.args.frame) froms lines) in
     let one = prints_more g.K.Sink.taken g.K.Sink.faults g.K.Sink.room _ _ _ _ _ _ first all (middle ++ (rest ++ [])) begun c.in_ok-print.ensures.ok in
-    on_err _ _ (fails_at g.K.Sink.taken g.K.Sink.faults g.K.Sink.room _ _ _ _ _ middle all (rest ++ []) one c.in_err-print_froms.ensures.err)
+    on_err _ _ (fails_at g.K.Sink.taken g.K.Sink.faults g.K.Sink.room _ _ _ _ _ middle all (rest ++ []) one c.in_err-print_each.ensures.err)
 
-pub returns-in_err-print_froms-clause-sure : goal.returns-in_err-print_froms-clause-sure
-returns-in_err-print_froms-clause-sure g c =
+pub returns-in_err-print_each-clause-sure : goal.returns-in_err-print_each-clause-sure
+returns-in_err-print_each-clause-sure g c =
     let first = printed_line (FrameLine c.args.frame) in
     let froms = map from_line c.args.arrivals.now in
     let lines = answer_lines c.args.received.now.lists c.args.journal.now c.args.slots.now c.args.replies.now in
@@ -49,7 +49,7 @@ returns-in_err-print_froms-clause-sure g c =
     let all = text_of (FrameLine c.args.frame ∷ (froms ++ lines)) in
     let begun = begins_printing g.K.Sink.taken g.K.Sink.faults g.K.Sink.room c.args.sink.now c.args.self.now all first (middle ++ (rest ++ [])) (text_of-three (FrameLine c.args.frame) froms lines) in
     let one = prints_more g.K.Sink.taken g.K.Sink.faults g.K.Sink.room _ _ _ _ _ _ first all (middle ++ (rest ++ [])) begun c.in_ok-print.ensures.ok in
-    λ fits. not_failed (c.in_err-print_froms.ensures.sure (has_room g.K.Sink.taken g.K.Sink.faults g.K.Sink.room _ _ _ _ middle all (rest ++ []) one fits))
+    λ fits. not_failed (c.in_err-print_each.ensures.sure (has_room g.K.Sink.taken g.K.Sink.faults g.K.Sink.room _ _ _ _ middle all (rest ++ []) one fits))
 
 pub returns-clause-ok : goal.returns-clause-ok
 returns-clause-ok g c =
@@ -61,7 +61,7 @@ returns-clause-ok g c =
     let all = text_of (FrameLine c.args.frame ∷ (froms ++ lines)) in
     let begun = begins_printing g.K.Sink.taken g.K.Sink.faults g.K.Sink.room c.args.sink.now c.args.self.now all first (middle ++ (rest ++ [])) (text_of-three (FrameLine c.args.frame) froms lines) in
     let one = prints_more g.K.Sink.taken g.K.Sink.faults g.K.Sink.room _ _ _ _ _ _ first all (middle ++ (rest ++ [])) begun c.in_ok-print.ensures.ok in
-    let two = prints_more g.K.Sink.taken g.K.Sink.faults g.K.Sink.room _ _ _ _ _ _ middle all (rest ++ []) one c.in_ok-print_froms.ensures.ok in
+    let two = prints_more g.K.Sink.taken g.K.Sink.faults g.K.Sink.room _ _ _ _ _ _ middle all (rest ++ []) one c.in_ok-print_each.ensures.ok in
     prints_last g.K.Sink.taken g.K.Sink.faults g.K.Sink.room _ _ _ _ _ _ _ rest all two c.print_answers.ensures.ok
 
 pub returns-clause-err : goal.returns-clause-err
@@ -74,7 +74,7 @@ returns-clause-err g c =
     let all = text_of (FrameLine c.args.frame ∷ (froms ++ lines)) in
     let begun = begins_printing g.K.Sink.taken g.K.Sink.faults g.K.Sink.room c.args.sink.now c.args.self.now all first (middle ++ (rest ++ [])) (text_of-three (FrameLine c.args.frame) froms lines) in
     let one = prints_more g.K.Sink.taken g.K.Sink.faults g.K.Sink.room _ _ _ _ _ _ first all (middle ++ (rest ++ [])) begun c.in_ok-print.ensures.ok in
-    let two = prints_more g.K.Sink.taken g.K.Sink.faults g.K.Sink.room _ _ _ _ _ _ middle all (rest ++ []) one c.in_ok-print_froms.ensures.ok in
+    let two = prints_more g.K.Sink.taken g.K.Sink.faults g.K.Sink.room _ _ _ _ _ _ middle all (rest ++ []) one c.in_ok-print_each.ensures.ok in
     fails_last g.K.Sink.taken g.K.Sink.faults g.K.Sink.room _ _ _ _ _ _ rest all two c.print_answers.ensures.err
 
 pub returns-clause-sure : goal.returns-clause-sure
@@ -87,5 +87,5 @@ returns-clause-sure g c =
     let all = text_of (FrameLine c.args.frame ∷ (froms ++ lines)) in
     let begun = begins_printing g.K.Sink.taken g.K.Sink.faults g.K.Sink.room c.args.sink.now c.args.self.now all first (middle ++ (rest ++ [])) (text_of-three (FrameLine c.args.frame) froms lines) in
     let one = prints_more g.K.Sink.taken g.K.Sink.faults g.K.Sink.room _ _ _ _ _ _ first all (middle ++ (rest ++ [])) begun c.in_ok-print.ensures.ok in
-    let two = prints_more g.K.Sink.taken g.K.Sink.faults g.K.Sink.room _ _ _ _ _ _ middle all (rest ++ []) one c.in_ok-print_froms.ensures.ok in
+    let two = prints_more g.K.Sink.taken g.K.Sink.faults g.K.Sink.room _ _ _ _ _ _ middle all (rest ++ []) one c.in_ok-print_each.ensures.ok in
     λ fits. c.print_answers.ensures.sure (has_room g.K.Sink.taken g.K.Sink.faults g.K.Sink.room _ _ _ _ rest all [] two fits)
