@@ -87,8 +87,10 @@ class Names(Calls):
                 self.assertEqual(said, [f"README.md:2: {fault}", "1 pages, 1 faults"])
         self.page("| `crates/NAME/planted/BUG.edit` | x | 2, y |\n`three`: `x_y`.\n`add_two`\n", "docs/BUGS.md")
         self.page("`add_two`\n", "a \x1b.md")
+        self.path("crates/one/planted/sum_is_two.edit", b"file: x\n")
         out, _ = self.names(status=1)
-        for said in (b"1: there are 1 edits in planted, not 2", b"2: there is no crate three", b"3: there is no add_two"):
+        unsaid = b"1: crates/one/planted/sum_is_two.edit doesn't begin with what its bug is"
+        for said in (b"1: there are 1 edits in planted, not 2", unsaid, b"2: there is no crate three", b"3: there is no add_two"):
             self.assertIn(b"docs/BUGS.md:" + said + b"\n", out)
         self.assertIn(b"a \\x1b.md:1: there is no add_two\n", out)
 
