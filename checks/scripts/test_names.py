@@ -89,7 +89,7 @@ class Names(Calls):
         self.page("`add_two`\n", "a \x1b.md")
         self.path("crates/one/planted/sum_is_two.edit", b"file: x\n")
         out, _ = self.names(status=1)
-        unsaid = b"1: crates/one/planted/sum_is_two.edit doesn't begin with what its bug is"
+        unsaid = b"1: crates/one/planted/sum_is_two.edit doesn't begin with its line bug:"
         for said in (b"1: there are 1 edits in planted, not 2", unsaid, b"2: there is no crate three", b"3: there is no add_two"):
             self.assertIn(b"docs/BUGS.md:" + said + b"\n", out)
         self.assertIn(b"a \\x1b.md:1: there is no add_two\n", out)
@@ -100,7 +100,7 @@ class Names(Calls):
         with open("/dev/full", "w") as full:
             self.assertEqual(self.names(status=1, stdout=full)[1], b"names: No space left on device\n")
         shutil.rmtree(self.path(".git"))
-        self.assertIn(b"git can't list the files", self.names(status=1)[1])
+        self.assertIn(b"git can't list the pages", self.names(status=1)[1])
 
 
 if __name__ == "__main__":
