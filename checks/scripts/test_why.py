@@ -155,7 +155,7 @@ class Logs(Calls):
         recording = run(["make", "5", "6", "4"])[0]
         self.lines = (recording.split(b"\nframe")[0] + b"\nend\n" + run(["feed", "2"], recording)[0]).split(b"\n")
 
-    def place(self, word, after=200):
+    def place(self, word, after=140):
         """The place of the first line of this kind after so many."""
         return next(place for place, line in enumerate(self.lines) if place >= after and line.split(b" ")[0] == word)
 
