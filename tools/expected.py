@@ -6,6 +6,7 @@ that, gives the same moves with one worker. Refused packets, joins and leaves do
 of their own frame.
 """
 import io
+import re
 from collections import Counter
 from dataclasses import dataclass, field
 
@@ -13,6 +14,7 @@ import arena
 from program import run
 
 LINES_A_FRAME = 512
+FED_LINE = re.compile(rb"from (0|[1-9][0-9]{0,4}) (-|(?:[0-9a-f]{2})+)")
 
 
 @dataclass
@@ -113,6 +115,14 @@ class Journalled:
         played = self.played(self.add(arrivals, answered.refusals, answered.joins, journal))
         played.refusals, played.joins = answered.refusals, answered.joins
         return frame_lines(played)
+
+
+def fed_packet(line):
+    """The packet of a `from` line as `feed` writes it, which has room in a recording, or None for any other line."""
+    said = FED_LINE.fullmatch(line)
+    if said is None or int(said[1]) > 65535 or len(line) > arena.RECORDING_LINE:
+        return None
+    return arena.Arrival(int(said[1]), b"" if said[2] == b"-" else bytes.fromhex(said[2].decode()), 0)
 
 
 def frame_lines(frame):

@@ -222,7 +222,10 @@ def log(path, name):
                 for line in map_lines(head):
                     judge.write(line)
         refusals = copy_to(judge, file)
-    return {**verdict(*judge.end()), "refusals": refusals}
+    found = verdict(*judge.end())
+    if found["end"] == "long":
+        found = {"end": "failed", "said": f"the lines of its map go on with a frame in line {found['line']}, without `end`"}
+    return {**found, "refusals": refusals}
 
 
 def judged(mode, path, workers, recording):

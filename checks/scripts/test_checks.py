@@ -34,6 +34,10 @@ class Checks(Calls):
         self.assertIn(b"a C compiler is needed", error)
         self.assertEqual(status, 2)
 
+    def test_maps_that_are_not_known(self):
+        for words in (["none"], ["--frames", "0"], ["--frames", "2001"], ["--packages", "/none"], ["--sing"]):
+            self.assertEqual(self.check("real_maps", *words)[1], 2)
+
     def test_no_program(self):
         for name, words in (("play", []), ("play", ["--built"]), ("workers", []), ("transcripts", []), ("soak", ["1", "1"])):
             error, status = self.check(name, *words, ARENA_CLI="/none/program")

@@ -5,12 +5,12 @@ import os
 import shutil
 import signal
 import subprocess
-import sys
 import time
 import unittest
 
 from calls import Calls, content, run
 from common import PROGRAM, TOOLS
+from program import has_audit
 
 ODD = ["a\tb\nc.demo", "\udcff '\"{}$(x).demo", "-n.demo", "\x1b[31mred.demo"]
 # What stands in for `ssh`: it runs the command on this machine, in a folder of its own.
@@ -18,18 +18,6 @@ SSH = """#!/bin/sh
 while [ "${1#-}" != "$1" ]; do case "$1" in -l|-o|-p) shift;; esac; shift; done
 shift; [ "$1" = -- ] && shift
 cd "$FAR_HOME" && HOME=$FAR_HOME exec sh -c "$*"
-"""
-# A program with a command `audit`, which calls each log right that has the word `end 2`.
-AUDIT = """#!{python}
-import os, sys
-if sys.argv[1:] != ["audit"]:
-    os.execv({program!r}, sys.argv)
-text = sys.stdin.read()
-if text.startswith("arena ") and "\\nend\\nframe 0\\n" in text and text.endswith("\\nend 2\\n"):
-    print("right frames 2 moves 0")
-elif text:
-    sys.stderr.write("transcript refused: line 3\\n")
-    sys.exit(6)
 """
 
 
@@ -120,22 +108,37 @@ class Many(Calls):
         self.assertIn("failed: alone.demo: there is no output beside it", out)
 
     def test_logs(self):
-        if run(["audit"])[2] == 2:
+        if not has_audit():
             _, error, _ = self.call("many", self.recordings, "--logs", status=2)
             self.assertIn(b"has no command `audit`", error)
-        audit = self.path("audit", AUDIT.format(python=sys.executable, program=PROGRAM).encode())
-        os.chmod(audit, 0o755)
-        recording = content("two-frames.demo")
-        fed = run(["feed", "1"], recording)[0]
+            self.skipTest("the program has no command `audit`")
+        recording = content("packet-faults.demo")
+        fed = run(["feed", "2"], recording)[0]
         head = recording.split(b"\nframe")[0] + b"\nend\n"
-        self.put("whole.log", head + fed)
+        self.put("whole.log", head + fed + b"what follows isn't looked at")
         self.put("parted.log", fed)
         self.put("parted.demo", recording)
-        self.put("wrong.log.gz", gzip.compress(head + fed[:-2]))
+        self.put("cut.log.gz", gzip.compress(head + fed[:-2]))
         self.put("alone.log", fed)
-        _, found, _ = self.many("--logs", status=1, env={"ARENA_CLI": audit})
-        wanted = {"whole.log": "right", "parted.log": "right", "wrong.log.gz": "wrong", "alone.log": "failed"}
+        self.put("refused.log", content("map-rule.demo") + fed)
+        self.put("framed.log", recording + fed)
+        self.put("long.log.gz", gzip.compress(self.log_of(["make", "7", "1", "2100"])))
+        out, found, _ = self.many("--logs", status=1)
+        wanted = {"whole.log": "right", "parted.log": "right", "long.log.gz": "right", "cut.log.gz": "wrong"}
+        wanted.update({"alone.log": "failed", "framed.log": "failed", "refused.log": "refused"})
         self.assertEqual(self.ends(found), wanted)
+        self.assertIn("alone.log: the log has no map, and there is no recording beside it", out)
+        number = recording.split(b"\nframe")[0].count(b"\n") + 2
+        self.assertIn(f"framed.log: the lines of its map go on with a frame in line {number}, without `end`", out)
+        last = (head + fed).count(b"\n")
+        self.assertIn(f"cut.log.gz: transcript refused: line {last}", out)
+        counts = {result["name"]: result.get("refusals") for result in found.values()}
+        self.assertEqual(counts["whole.log"], fed.count(b"\nno "))
+
+    @staticmethod
+    def log_of(words):
+        recording = run(words)[0]
+        return recording.split(b"\nframe")[0] + b"\nend\n" + run(["feed", "2"], recording)[0]
 
     def test_results_go_on(self):
         for number in range(4):

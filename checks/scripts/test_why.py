@@ -1,12 +1,10 @@
 """`why`: faults, rules of the map, encodings, and what a wrong output should have been."""
 import gzip
-import os
 import random
-import sys
 import unittest
 
 from calls import Calls, content, example, run
-from common import PROGRAM
+from program import has_audit
 
 MAP = "arena -65536 -65536 0 65536 65536 65536\nspawn 0 0 6144\n"
 LIFT = "lift 20000 20000 0 30000 30000 2000 9000 100\n"
@@ -146,27 +144,76 @@ class Outputs(Calls):
         long = run(["make", "1", "1", "2001"])[0]
         self.assertIn(b"takes no more", self.why(long, b"")[0])
 
-    def test_a_log_without_audit(self):
-        if run(["audit"])[2] != 2:
-            self.skipTest("the program has `audit`")
-        self.assertIn(b"has no command `audit`", self.call("why", "--log", example("duel.out"), status=1)[0])
 
-    def test_a_wrong_log(self):
-        """The program that is called says that the log is wrong at a line, as `audit` would."""
+class Logs(Calls):
+    def setUp(self):
+        super().setUp()
+        if not has_audit():
+            said = self.call("why", "--log", example("duel.out"), status=1)[0]
+            self.assertIn(b"has no command `audit`", said)
+            self.skipTest("the program has no command `audit`")
         recording = run(["make", "5", "6", "4"])[0]
-        head = recording.split(b"\nframe")[0] + b"\nend\n"
-        fed = run(["feed", "2"], recording)[0].split(b"\n")
-        place = next(p for p, line in enumerate(fed) if p > 30 and line.startswith(b"did "))
-        piece = max(p for p in range(place) if fed[p].startswith(b"frame "))
-        fields = fed[place].split(b" ")
-        fields[4] = b"%d" % (int(fields[4]) + 1)
-        log = self.path("bad.log", head + b"\n".join(fed[:place] + [b" ".join(fields)] + fed[place + 1 :]))
-        said = f"transcript refused: line {head.count(10) + piece + 1}"
-        script = f"#!{sys.executable}\nimport os, sys\nif sys.argv[1:] != ['audit']:\n    os.execv({PROGRAM!r}, sys.argv)\n"
-        audit = self.path("program", (script + f"print({said!r}, file=sys.stderr)\nsys.exit(6)\n").encode())
-        os.chmod(audit, 0o755)
-        out, _, _ = self.call("why", "--log", log, status=1, env={"ARENA_CLI": audit})
-        self.assertIn(b"\nline %d should be %s\n" % (place + 1, fed[place]), out)
+        self.lines = (recording.split(b"\nframe")[0] + b"\nend\n" + run(["feed", "2"], recording)[0]).split(b"\n")
+
+    def place(self, word, after=140):
+        """The place of the first line of this kind after so many."""
+        return next(place for place, line in enumerate(self.lines) if place >= after and line.split(b" ")[0] == word)
+
+    def why(self, data, status=1):
+        return self.call("why", "--log", self.path("some.log", data), status=status)[0]
+
+    def changed(self, place, *lines):
+        return b"\n".join([*self.lines[:place], *lines, *self.lines[place + 1 :]])
+
+    def test_right_logs(self):
+        whole = b"\n".join(self.lines)
+        self.assertEqual(self.why(whole, 0), b"the log is right: right frames 4 moves 24\n")
+        self.why(whole.replace(b"\nend\n", b"\nend\r\n", 1) + b"more", 0)
+
+    def test_the_changed_line_is_named_with_what_it_should_be(self):
+        for word, field in ((b"did", 4), (b"to", 1), (b"from", 1)):
+            place = self.place(word)
+            fields = self.lines[place].split(b" ")
+            fields[field] = b"%d" % (int(fields[field]) + 1)
+            out = self.why(self.changed(place, b" ".join(fields)).replace(b"\nend\n", b"\nend\r\n", 1))
+            piece = max(p for p in range(place) if self.lines[p].startswith(b"frame "))
+            self.assertTrue(out.startswith(b"the log is wrong from its line %d on\n" % (piece + 1)))
+            if word == b"from":  # no player of this port joined, or another one moves once more
+                self.assertIn(b"should be ", out)
+            else:
+                wanted = self.lines[place][:100] + (b".." if len(self.lines[place]) > 100 else b"")
+                self.assertIn(b"\nline %d should be %s\n" % (place + 1, wanted), out)
+
+    def test_where_a_piece_begins(self):
+        place = self.place(b"frame")
+        number = int(self.lines[place].split(b" ")[1])
+        begins = b"line %d should be frame %d, or end %d\n" % (place + 1, number, number)
+        out = self.why(self.changed(place))
+        self.assertIn(begins, out)
+        self.assertIn(b"\nthe log ends before its line %d\n" % (place + 1) + begins, self.why(b"\n".join([*self.lines[:place], b""])))
+        out = self.why(self.changed(place, b"frame 999"))
+        self.assertIn(b"line %d should be frame %d\n" % (place + 1, number), out)
+
+    def test_lines_that_are_no_packets(self):
+        place = self.place(b"from")
+        for line in (b"from 1 0", b"from 1 0A", b"from 99999 -", b"from 01 -", b"from 1", b"from 65535 " + b"00" * 251):
+            out = self.why(self.changed(place, line))
+            self.assertIn(b"\nline %d is        %s" % (place + 1, line[:90]), out)
+            self.assertIn(b"a frame has at most 512 lines `from PORT HEX`", out)
+        self.assertIn(b"\nline %d is " % (place + 513), self.why(self.changed(place, *[b"from 1 -"] * 600)))
+
+    def test_a_frame_without_answers(self):
+        """Packets may still come where a log ends after its line `frame`."""
+        log = b"arena -65536 -65536 0 65536 65536 65536\nspawn 0 0 6144\nend\nframe 0\nframe 1\n"
+        out = self.why(log)
+        self.assertIn(b"the log is wrong from its line 5 on", out)
+        self.assertIn(b"the log ends there, where packets or answers of the frame may follow", out)
+        self.why(log + b"end 2\n", 0)
+
+    def test_a_map_without_its_end(self):
+        whole = b"\n".join(self.lines)
+        self.assertIn(b"line 102 begins a frame", self.why(whole.replace(b"\nend\n", b"\nframe\nend\n", 1)))
+        self.assertIn(b"is refused", self.why(whole.replace(b"\nend\n", b"\n", 1)))
 
 
 if __name__ == "__main__":
