@@ -60,6 +60,11 @@ nodes_read F view new = record view {
   refused = new.refused;
 }
 
+-- these are the own words and the wanted leaves in view
+pub record AreInView (own wanted : List ℕ) (view : View) : Type 0 where
+  pub own_is : own ≡ view.own
+  pub wanted_is : wanted ≡ view.wanted
+
 -- the nodes that are taken, and those that come after the next one
 abbrev pub got_at : Point → List ℕ
 got_at (Taking got rest) = got

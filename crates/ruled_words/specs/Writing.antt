@@ -3,7 +3,7 @@ use Rattle.std.specs.Prelude.{◌≡◌, ℕ, suc, List, [], ◌∷◌, ◌++◌
 use Rattle.entity_recs.specs.declared.effect.Effect.{Effect}
 use Rattle.entity_recs.specs.declared.effect.NewState.{NewState}
 use Rattle.core_steps.specs.Cells.{State}
-use Rattle.core_steps.specs.Nodes.{Fixed}
+use Rattle.core_steps.specs.Nodes.{Fixed, home}
 use Rattle.core_steps.specs.Points.{Point, Resolving, Claiming, Storing, Releasing, Store, Put}
 use Rattle.core_steps.specs.Reads.{View}
 use Rattle.core_steps.specs.Nodes.{write_nodes}
@@ -25,6 +25,12 @@ pub record HasTried (old : PassView) (view : View) (new : PassView) : Type 0 whe
   pub tally : IsTriedOn old.tally new.tally
 
 -- ---- the write nodes
+
+-- these are the node at which the own player is linked, by its record as it was loaded again, and the one at which it
+-- will be with the effect
+pub record AreHomes (F : Fixed) (view : View) (e : Effect) (old new : ℕ) : Type 0 where
+  pub old_is : old ≡ home F (record_read view.cmd.slot view.again)
+  pub new_is : new ≡ home F e.me
 
 -- the write nodes of the effect on the own record as it was loaded again
 abbrev pub nodes_written : Fixed → View → Effect → List ℕ

@@ -5,7 +5,7 @@ ghost use Rattle.core_steps.specs.Reads.{effect_loaded, record_read};
 ghost use Rattle.core_steps.specs.Nodes.{inner_of_two};
 ghost use Rattle.core_seats.specs.Refusals.{AreRefusals};
 ghost use Rattle.ruled_words.specs.Passes.{fixed_in, IsOwn};
-ghost use Rattle.ruled_words.specs.Writing.{HasTried, nodes_written, view_after_stores};
+ghost use Rattle.ruled_words.specs.Writing.{AreHomes, HasTried, nodes_written, view_after_stores};
 
 use crate::hand::Hand;
 use crate::shared_words::SharedWords;
@@ -25,8 +25,7 @@ impl<'a, A: Action> SharedWords<'a, A> {
         requires at { hand.now.view.point ≡ Resolving }
         requires before { before.now ≡ record_read hand.now.view.cmd.slot hand.now.view.again }
         requires effect { effect.now ≡ effect_loaded (fixed_in A.meaning self.now) hand.now.view }
-        ensures old { result.0 ≡ home (fixed_in A.meaning self.now) before.now }
-        ensures new { result.1 ≡ home (fixed_in A.meaning self.now) effect.now.me }
+        ensures { AreHomes (fixed_in A.meaning self.now) hand.now.view effect.now result.0 result.1 }
     {
         // The hand says that both are records.
         let _ = hand;
@@ -62,12 +61,9 @@ impl<'a, A: Action> SharedWords<'a, A> {
         requires at { hand.old.view.point ≡ Resolving }
         requires effect { effect.now ≡ effect_loaded (fixed_in A.meaning self.now) hand.old.view }
         requires slot { slot ≡ hand.old.view.cmd.slot }
-        requires old_node { old ≡ home (fixed_in A.meaning self.now)
-            (record_read hand.old.view.cmd.slot hand.old.view.again) }
-        requires new_node { new ≡ home (fixed_in A.meaning self.now) effect.now.me }
+        requires homes { AreHomes (fixed_in A.meaning self.now) hand.old.view effect.now old new }
         requires nodes { nodes.now ≡ nodes_written (fixed_in A.meaning self.now) hand.old.view effect.now }
-        requires own_is { own.now ≡ hand.old.view.own }
-        requires wanted_is { wanted.now.items ≡ hand.old.view.wanted }
+        requires lent { AreInView own.now wanted.now.items hand.old.view }
         ensures own { IsOwn A.meaning self.now hand.new }
         ensures written { HasTried hand.old
             (view_after_stores (fixed_in A.meaning self.now) result effect.now nodes.now hand.old.view) hand.new }

@@ -6,7 +6,7 @@ ghost use Rattle.core_steps.specs.Points.{Entering, Entered, Leaving};
 ghost use Rattle.core_steps.specs.Reads.{region_in};
 ghost use Rattle.core_seats.specs.Refusals.{AreRefusals};
 ghost use Rattle.ruled_words.specs.Passes.{fixed_in, IsOwn};
-ghost use Rattle.ruled_words.specs.Straight.{HasKept, IsTriedOn, in_view, in_view_with, nodes_read};
+ghost use Rattle.ruled_words.specs.Straight.{AreInView, HasKept, IsTriedOn, in_view, in_view_with, nodes_read};
 ghost use Rattle.ruled_words.specs.Visits.{plan_left, read_until, under_until, visited_until};
 
 use crate::hand::Hand;
@@ -189,8 +189,7 @@ impl<'a, A: Action> SharedWords<'a, A> {
             leaves ≡ leaves_of F.tree (region_in F v.cmd v.own) }
         requires inner { let F = fixed_in A.meaning self.now in
             inner ≡ visited_of F.tree.depth leaves % 2 ^ inner_nodes F }
-        requires own_is { own.now ≡ hand.old.view.own }
-        requires wanted_is { wanted.now.items ≡ hand.old.view.wanted }
+        requires lent { AreInView own.now wanted.now.items hand.old.view }
         requires slot { slot ≡ hand.old.view.cmd.slot }
         ensures own { IsOwn A.meaning self.now hand.new }
         ensures view { hand.new ≡ in_view_with hand.old

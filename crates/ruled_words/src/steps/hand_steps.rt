@@ -9,7 +9,7 @@ ghost use Rattle.core_seats.specs.Seats.{view_of};
 ghost use Rattle.ruled_words.specs.Going.{IsAtRest, view_looked};
 ghost use Rattle.ruled_words.specs.Hands.{begun_with, pass_keeping, pass_view, still_keeping};
 ghost use Rattle.ruled_words.specs.Plays.{IsSoundSight};
-ghost use Rattle.ruled_words.specs.Holders.{IsFoundHeld, AreReached};
+ghost use Rattle.ruled_words.specs.Holders.{IsFoundNode};
 ghost use Rattle.ruled_words.specs.Passes.{fixed_in, word_after, IsOwn, next_in, after_in, sight_of, HasGone};
 ghost use Rattle.ruled_words.specs.WordSteps.{word_by, MayBe};
 
@@ -35,10 +35,8 @@ impl<'a, A: Action> SharedWords<'a, A> {
         ensures taken { (node slot : ℕ) (part players plan : List ℕ)
             → the_next (next_in A.meaning self.now hand.old) ≡ ReadPlayer node part slot players plan
             → length part ≡ 5 → (A.meaning self.now.action).takes (record_read slot (part ++ result ∷ [])) ≡ true }
-        ensures held { IsFoundHeld (fixed_in A.meaning self.now) (length self.now.rooms) hand.old.number
+        ensures node { IsFoundNode (fixed_in A.meaning self.now) (length self.now.rooms) hand.old.number hand.old.view
             (the_next (next_in A.meaning self.now hand.old)) result }
-        ensures reached { AreReached (fixed_in A.meaning self.now) hand.old.view
-            (the_next (next_in A.meaning self.now hand.old)) }
         ensures seen { kind_of (the_next (next_in A.meaning self.now hand.old)) ≡ Commit
             → hand.old.view.seen ≤ result }
         ensures small { kind_of (the_next (next_in A.meaning self.now hand.old)) ≡ Commit → result + 1 < 2 ^ 64 }
@@ -79,10 +77,8 @@ impl<'a, A: Action> SharedWords<'a, A> {
         ensures pass { still_keeping hand.new effect.now
             ≡ after_in A.meaning self.now result (pass_keeping hand.old effect.now) }
         ensures own { IsOwn A.meaning self.now (still_keeping hand.new effect.now) }
-        ensures held { IsFoundHeld (fixed_in A.meaning self.now) (length self.now.rooms) hand.old.number
+        ensures node { IsFoundNode (fixed_in A.meaning self.now) (length self.now.rooms) hand.old.number hand.old.view
             (the_next (next_in A.meaning self.now (pass_keeping hand.old effect.now))) result }
-        ensures reached { AreReached (fixed_in A.meaning self.now) hand.old.view
-            (the_next (next_in A.meaning self.now (pass_keeping hand.old effect.now))) }
         ensures seen { kind_of (the_next (next_in A.meaning self.now (pass_keeping hand.old effect.now))) ≡ Commit
             → hand.old.view.seen ≤ result }
         ensures small { kind_of (the_next (next_in A.meaning self.now (pass_keeping hand.old effect.now))) ≡ Commit

@@ -16,10 +16,10 @@ read_inner-over-requires-clause-inner g c κs within =
     c.requires.inner ∙ ap (λ (n : ℕ). visited_of F.tree.depth n % 2 ^ inner_nodes F) (c.requires.leaves ∙ sym (read_leaves_of F c.args.hand.now c.read_leaves-outer.new.hand c.read_leaves-outer.ensures.view))
 
 pub read_inner-over-requires-clause-own_is : goal.read_inner-over-requires-clause-own_is
-read_inner-over-requires-clause-own_is g c κs within = c.requires.own_is ∙ sym (ap (λ (q : PassView). q.view.own) c.read_leaves-outer.ensures.view)
+read_inner-over-requires-clause-own_is g c κs within = c.requires.lent.own_is ∙ sym (ap (λ (q : PassView). q.view.own) c.read_leaves-outer.ensures.view)
 
 pub read_inner-over-requires-clause-wanted_is : goal.read_inner-over-requires-clause-wanted_is
-read_inner-over-requires-clause-wanted_is g c κs within = c.requires.wanted_is ∙ sym (ap (λ (q : PassView). q.view.wanted) c.read_leaves-outer.ensures.view)
+read_inner-over-requires-clause-wanted_is g c κs within = c.requires.lent.wanted_is ∙ sym (ap (λ (q : PassView). q.view.wanted) c.read_leaves-outer.ensures.view)
 
 pub read_inner-over-requires-clause-slot : goal.read_inner-over-requires-clause-slot
 read_inner-over-requires-clause-slot g c κs within = c.requires.slot ∙ sym (ap (λ (q : PassView). q.view.cmd.slot) c.read_leaves-outer.ensures.view)

@@ -21,17 +21,11 @@ returns-clause-taken g c =
     rw (← c.self.view_is) c.step_on.ensures.gone in
     gone.taken
 
-pub returns-clause-held : goal.returns-clause-held
-returns-clause-held g c =
+pub returns-clause-node : goal.returns-clause-node
+returns-clause-node g c =
     let gone : HasGone (fixed_in g.A.Action.meaning c.args.self.now) (length c.args.self.now.rooms) c.args.hand.now c.step_on.result c.step_on.new.self =
     rw (← c.self.view_is) c.step_on.ensures.gone in
-    gone.held
-
-pub returns-clause-reached : goal.returns-clause-reached
-returns-clause-reached g c =
-    let gone : HasGone (fixed_in g.A.Action.meaning c.args.self.now) (length c.args.self.now.rooms) c.args.hand.now c.step_on.result c.step_on.new.self =
-    rw (← c.self.view_is) c.step_on.ensures.gone in
-    gone.reached
+    record { held = gone.held; reached = gone.reached }
 
 pub returns-clause-seen : goal.returns-clause-seen
 returns-clause-seen g c =
