@@ -1,5 +1,5 @@
 -- A plain hand takes the write nodes of its effect, and commits.
-use Rattle.std.proofs.Common.{◌≡◌, ℕ, suc, ◌+◌, ◌*◌, Bool, true, false, if◌then◌else◌, ◌<◌, ◌≤◌, List, [], ◌∷◌, length, slice_index_or, take, drop, refl, sym, ap, ◌∙◌, subst, Option, Some, None, arith}
+use Rattle.std.proofs.Common.{◌≡◌, ℕ, suc, ◌+◌, ◌*◌, ◌^◌, Bool, true, false, if◌then◌else◌, ◌<◌, ◌≤◌, List, [], ◌∷◌, ◌++◌, length, slice_index_or, take, drop, refl, sym, ap, ◌∙◌, subst, Option, Some, None, arith}
 use Rattle.std.specs.Prelude.{◌==◌}
 use Rattle.std.proofs.lemmas.Bool.{eqb-true, or_left, or_right, eq-eqb}
 use Rattle.std.proofs.lemmas.List.{take_more, take_all, drop_more, drop_all}
@@ -11,7 +11,7 @@ use Rattle.core_steps.specs.Points.{Point, Resolving, Claiming, Storing, Releasi
 use Rattle.core_steps.specs.Points.{is_without_effect, stores_of}
 use Rattle.core_steps.specs.Reads.{View, record_read, region_in}
 use Rattle.core_steps.specs.Held.{leaf_word, held_word}
-use Rattle.core_steps.specs.Steps.{first, rest_of, point_after_take, view_after_take, view_after_claim, view_after_refusal, view_after_commit, storing}
+use Rattle.core_steps.specs.Steps.{first, rest_of, point_after_take, view_after_take, view_after_claim, view_after_refusal, view_after_commit, storing, item_at}
 use Rattle.core_steps.specs.Machine.{Next, TakeNode, ClaimNode, CommitMove, resolving, committing, kind_of}
 use Rattle.core_steps.specs.declared.step.StepKind.TheVariants.{Commit}
 use Rattle.core_steps.specs.Stands.{IsAt, IsClaimingAfter}
@@ -26,7 +26,7 @@ use Rattle.ruled_words.specs.Sights.{Tally, tally_after}
 use Rattle.ruled_words.specs.Passes.{PassView, next_of_pass, pass_after, word_after, IsPassOf}
 use Rattle.ruled_words.specs.Hands.{IsPlain, pass_keeping, still_keeping}
 use Rattle.ruled_words.specs.Straight.{in_view, in_view_with, IsTriedOn}
-use Rattle.ruled_words.specs.Writing.{as_tried, HasTried, nodes_written, nodes_held, claims_left, claimed_point, claimed_effect, view_with_claims, IsClaimed, view_after_stores}
+use Rattle.ruled_words.specs.Writing.{as_tried, HasTried, nodes_written, nodes_held, claims_left, claimed_point, claimed_effect, view_with_claims, IsClaimed, HasWritten, view_after_stores}
 use Rattle.ruled_words.proofs.Owns.{no_effect}
 use Rattle.ruled_words.proofs.LoadedWords.{plain_is, plain_after, plain_next}
 use Rattle.ruled_words.proofs.PlainHands.{keeping_next, left_next, after_next_is}
@@ -361,3 +361,35 @@ module _ (F : Fixed) (passes : ℕ) (table : TableId) (start : PassView) (e : Ef
 
       pub refusals_written : (r : Refusals) → AreRefusals r one.view → AreRefusals r three.view
       refusals_written r are = subst (λ (q : PassView). AreRefusals r q.view) (sym all_written) (record { count = are.count; last = are.last })
+
+-- ---- the write nodes are given back
+
+module _ (F : Fixed) (e : Effect) (place : ℕ) (nodes : List ℕ) (old at new : PassView) (first : HasTried old (view_after_stores F place e nodes old.view) at)
+    (second : new ≡ in_view at (record at.view { point = Releasing [] })) where
+  released : new ≡ in_view_with old (record (as_tried (view_after_stores F place e nodes old.view) at.view) { point = Releasing [] }) at.tally
+  released = second ∙ ap (λ (p : PassView). in_view p (record p.view { point = Releasing [] })) first.hand
+
+  pub written_all : old.view.seen ≤ place → place + 1 < 2 ^ 64 → HasWritten e place old new
+  written_all seen small =
+      let count : at.view.refusals ≡ new.view.refusals = sym (ap (λ (p : PassView). p.view.refusals) released) in
+      let last : at.view.refused ≡ new.view.refused = sym (ap (λ (p : PassView). p.view.refused) released) in
+      let tally : at.tally ≡ new.tally = sym (ap (λ (p : PassView). p.tally) released) in
+      record {
+        hand = released ∙ (λ i. in_view_with old (record old.view {
+          point = Releasing [];
+          effect = Some e;
+          seen = suc place;
+          log = old.view.log ++ item_at place old.view e ∷ [];
+          refusals = count i;
+          refused = last i;
+        }) (tally i));
+        tried = subst (IsTriedOn old.tally) tally first.tally;
+        place_is = seen;
+        small = small;
+      }
+
+  pub written_refusals : (r : Refusals) → AreRefusals r at.view → AreRefusals r new.view
+  written_refusals r are = record {
+    count = are.count ∙ sym (ap (λ (p : PassView). p.view.refusals) released);
+    last = are.last ∙ sym (ap (λ (p : PassView). p.view.refused) released);
+  }

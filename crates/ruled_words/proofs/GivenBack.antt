@@ -3,13 +3,11 @@ use Rattle.std.proofs.Common.{◌≡◌, ◌⊎◌, ℕ, ◌+◌, ◌^◌, ◌<�
 use Rattle.std.specs.Prelude.{◌==◌, ◌&&◌, not}
 use Rattle.std.proofs.lemmas.List.{drop_more, drop_all}
 use Rattle.atomic_table.specs.Seated.{TableId}
-use Rattle.arena_geo.specs.Bounds.{Bounds}
 use Rattle.areanode.specs.Words.{has_bit}
 use Rattle.areanode.specs.Trees.{IsTreeDepth, leaf_node, leaves_of}
 use Rattle.core_steps.specs.Nodes.{Fixed, leaf_nodes}
 use Rattle.core_steps.specs.Points.{Point, Releasing, is_whole, stage_of}
 use Rattle.core_steps.specs.Reads.{View, region_in, without_command}
-use Rattle.core_steps.specs.Held.{leaf_word}
 use Rattle.core_steps.specs.Steps.{first, rest_of, returning, view_after_give}
 use Rattle.core_steps.specs.Machine.{GiveNode, giving}
 use Rattle.core_seats.specs.Nexts.{the_next}
@@ -18,7 +16,7 @@ use Rattle.ruled_words.specs.Passes.{PassView, next_of_pass, node_given_next, pa
 use Rattle.ruled_words.specs.Hands.{IsPlain}
 use Rattle.ruled_words.specs.Straight.{in_view}
 use Rattle.ruled_words.proofs.BitWalks.{bits_in, bits_none, lowest_first}
-use Rattle.ruled_words.proofs.LeafWords.{leaf_word_is, leaves_small, leaves_few}
+use Rattle.ruled_words.proofs.LeafWords.{leaves_few}
 use Rattle.ruled_words.proofs.LoadedWords.{none_kept, plain_is, plain_after, plain_next}
 use Rattle.ruled_words.proofs.PlainHands.{after_next_is}
 
@@ -62,28 +60,14 @@ pub record HasReturned (F : Fixed) (passes : ℕ) (table : TableId) (start now :
 
 module _ (F : Fixed) (passes : ℕ) (table : TableId) (start : PassView) (plain : IsPlain start) (at : start.view.point ≡ Releasing []) where
   -- the leaves are those of the word
-  pub returned_none : (leaves : ℕ) → IsPassOf F passes table start → leaves ≡ leaf_word F start.view.wanted → HasReturned F passes table start start (leaves_in F leaves)
+  pub returned_none : (leaves : ℕ) → IsPassOf F passes table start → leaves ≡ leaves_of F.tree (region_in F start.view.cmd start.view.own) → HasReturned F passes table start start (leaves_in F leaves)
   returned_none leaves own are = record { own = own; phase = inl (refl, wanted) }
     where
-      region : List Bounds
-      region = region_in F start.view.cmd start.view.own
-
-      whole : start.view.wanted ≡ leaf_nodes F region
+      whole : start.view.wanted ≡ leaf_nodes F (region_in F start.view.cmd start.view.own)
       whole = own.sound_sight.sound.whole (ap (λ (q : Point). is_whole (stage_of q)) at)
 
-      word : leaves ≡ leaves_of F.tree region
-      word = are ∙ ap (leaf_word F) whole ∙ leaf_word_is F region
-
       wanted : leaves_in F leaves ≡ start.view.wanted
-      wanted = ap (leaves_in F) word ∙ sym whole
-
-  -- and the word has a bit for each leaf at most
-  pub returned_small : (leaves : ℕ) → IsPassOf F passes table start → leaves ≡ leaf_word F start.view.wanted → leaves < 2 ^ 2 ^ F.tree.depth
-  returned_small leaves own are =
-      let sound = own.sound_sight.sound in
-      let region = region_in F start.view.cmd start.view.own in
-      let whole = sound.whole (ap (λ (q : Point). is_whole (stage_of q)) at) in
-      leaves_small F region leaves (are ∙ ap (leaf_word F) whole ∙ leaf_word_is F region)
+      wanted = ap (leaves_in F) are ∙ sym whole
 
   module _ (now : PassView) (node : ℕ) (rest : List ℕ) where
     first_given : now ≡ start → node ∷ rest ≡ start.view.wanted → next_of_pass F now ≡ Some (GiveNode node)

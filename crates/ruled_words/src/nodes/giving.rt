@@ -1,11 +1,11 @@
 ghost use Rattle.std.specs.Prelude.{◌≡◌, [], Some};
 ghost use Rattle.core_steps.specs.Points.{Releasing};
 ghost use Rattle.core_steps.specs.Reads.{without_command};
-ghost use Rattle.core_steps.specs.Held.{leaf_word};
 ghost use Rattle.ruled_words.specs.Passes.{fixed_in, IsOwn, next_in, after_in, node_given_next};
-ghost use Rattle.ruled_words.specs.Straight.{in_view};
+ghost use Rattle.ruled_words.specs.Straight.{AreHeldFor, in_view};
 
 use crate::hand::Hand;
+use crate::held::Held;
 use crate::shared_words::SharedWords;
 use crate::word_step::WordStep;
 use core_seats::{lowest_bit, without_bit};
@@ -24,7 +24,7 @@ impl<'a, A: Action> SharedWords<'a, A> {
     }
 
     /// Gives back the write nodes, after the stores.
-    pub fn release_nodes(&self, hand: &mut Hand, nodes: &[u8])
+    pub(crate) fn release_nodes(&self, hand: &mut Hand, nodes: &[u8])
         requires own { IsOwn A.meaning self.now hand.old }
         requires at { hand.old.view.point ≡ Releasing nodes.now }
         ensures own { IsOwn A.meaning self.now hand.new }
@@ -36,17 +36,17 @@ impl<'a, A: Action> SharedWords<'a, A> {
         }
     }
 
-    /// Gives back the leaves of the command, bit i for leaf i, after the write nodes: the command is done.
-    pub fn return_leaves(&self, hand: &mut Hand, leaves: u32)
+    /// Gives back the leaves of the command, after the write nodes: the command is done.
+    pub fn return_leaves(&self, hand: &mut Hand, held: &Held)
         requires own { IsOwn A.meaning self.now hand.old }
         requires at { hand.old.view.point ≡ Releasing [] }
-        requires leaves { leaves ≡ leaf_word (fixed_in A.meaning self.now) hand.old.view.wanted }
+        requires held { AreHeldFor (fixed_in A.meaning self.now) held.now hand.old.view }
         ensures own { IsOwn A.meaning self.now hand.new }
         ensures view { hand.new ≡ in_view hand.old (without_command hand.old.view) }
     {
         hand.is_plain();
         let first = self.first_leaf();
-        let mut rest = u64::from(leaves);
+        let mut rest = u64::from(held.leaves);
         while rest != 0 {
             let leaf = lowest_bit(rest);
             rest = without_bit(rest, leaf);

@@ -2,9 +2,6 @@ use Rattle.ruled_words.specs.Passes.{fixed_in}
 use Rattle.region_locks.proofs.Runs.{known_point, read_all, read_tally, read_refusals}
 use Rattle.region_locks.proofs.moving.run.read_region.Goals as goal
 
-pub read_nodes-seen-requires-clause-lent : goal.read_nodes-seen-requires-clause-lent
-read_nodes-seen-requires-clause-lent g c κs within = record { own_is = c.requires.held.own_is; wanted_is = c.requires.held.wanted_is }
-
 pub at_effect-requires-clause-at : goal.at_effect-requires-clause-at
 at_effect-requires-clause-at g c κs within =
     known_point (fixed_in g.A.Action.meaning c.args.words.now) c.args.hand.now c.read_nodes-seen.new.hand c.read_effect-effect.new.hand c.read_nodes-seen.ensures.view c.read_effect-effect.ensures.view c.read_effect-effect.result

@@ -1,5 +1,6 @@
-use Rattle.std.proofs.Common.{sym, ap, ◌∙◌}
+use Rattle.std.proofs.Common.{sym, subst, ◌∙◌}
 use Rattle.ruled_words.specs.Passes.{PassView, fixed_in}
+use Rattle.ruled_words.specs.Straight.{AreHeldFor}
 use Rattle.ruled_words.proofs.TriedTakes.{until_start, until_taken, until_word, until_tried, until_refused, not_tried, tried_again}
 use Rattle.ruled_words.proofs.shared_words.SharedWords.take_node.Goals as goal
 
@@ -14,11 +15,8 @@ pub try_node-requires-clause-word : goal.try_node-requires-clause-word
 try_node-requires-clause-word g c κs within found =
     until_word (fixed_in g.A.Action.meaning c.args.self.now) c.args.hand.now c.args.node c.is_plain.ensures c.requires.next c.loop.hand c.loop.invariant.3 found ∙ c.requires.word found
 
-pub try_node-requires-clause-own_is : goal.try_node-requires-clause-own_is
-try_node-requires-clause-own_is g c κs within = c.requires.own_is ∙ sym (ap (λ (q : PassView). q.view.own) c.loop.invariant.3)
-
-pub try_node-requires-clause-wanted_is : goal.try_node-requires-clause-wanted_is
-try_node-requires-clause-wanted_is g c κs within = c.requires.wanted_is ∙ sym (ap (λ (q : PassView). q.view.wanted) c.loop.invariant.3)
+pub try_node-requires-clause-held : goal.try_node-requires-clause-held
+try_node-requires-clause-held g c κs within = subst (λ (q : PassView). AreHeldFor (fixed_in g.A.Action.meaning c.args.self.now) c.args.held.now q.view) (sym c.loop.invariant.3) c.requires.held
 
 pub returns-then-try_node-clause-view : goal.returns-then-try_node-clause-view
 returns-then-try_node-clause-view g c =

@@ -35,4 +35,4 @@ pub returns-clause-refusals : goal.returns-clause-refusals
 returns-clause-refusals g c are =
     refusals_found c.note_refused.new.refusals c.args.hand.now.view (view_after_claim (fixed_in g.A.Action.meaning c.args.self.now) c.args.effect.now c.args.node c.args.hand.now.view) c.step_resolved-found.new.hand.view c.args.node c.step_resolved-found.result
     (first_view (fixed_in g.A.Action.meaning c.args.self.now) c.args.hand.now c.args.effect.now c.args.node c.is_plain.ensures c.requires.at c.requires.next c.step_resolved-found.new.hand c.step_resolved-found.result c.is_plain-2.ensures c.step_resolved-found.ensures.pass)
-    refl refl (c.note_refused.ensures.noted c.args.hand.now.view c.requires.own_is c.requires.wanted_is are)
+    refl refl (c.note_refused.ensures.noted c.args.hand.now.view c.requires.held.own_is c.requires.held.wanted_is are)

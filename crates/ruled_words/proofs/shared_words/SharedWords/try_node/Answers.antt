@@ -23,4 +23,4 @@ pub returns-clause-refusals : goal.returns-clause-refusals
 returns-clause-refusals g c are =
     let F = fixed_in g.A.Action.meaning c.args.self.now in
     found_noted F c.note_refused.new.refusals c.args.hand.now.view c.step_hand-found.new.hand.view (the_next (next_of_pass F c.args.hand.now)) c.args.node c.step_hand-found.result (taken_next _ _ c.requires.next)
-    (ap (λ (q : PassView). q.view) c.step_hand-found.ensures.pass) (c.note_refused.ensures.noted c.args.hand.now.view c.requires.own_is c.requires.wanted_is are)
+    (ap (λ (q : PassView). q.view) c.step_hand-found.ensures.pass) (c.note_refused.ensures.noted c.args.hand.now.view c.requires.held.own_is c.requires.held.wanted_is are)

@@ -20,7 +20,7 @@ read_under-players-requires-clause-at g c κs within =
 
 pub read_under-players-requires-clause-slot : goal.read_under-players-requires-clause-slot
 read_under-players-requires-clause-slot g c κs within =
-    c.requires.slot ∙ sym (entered_slot (fixed_in g.A.Action.meaning c.args.self.now) c.args.hand.now c.args.node c.requires.inner c.is_plain.ensures c.requires.at c.take_node.new.hand c.take_node.ensures.view)
+    c.requires.held.slot_is ∙ sym (entered_slot (fixed_in g.A.Action.meaning c.args.self.now) c.args.hand.now c.args.node c.requires.inner c.is_plain.ensures c.requires.at c.take_node.new.hand c.take_node.ensures.view)
 
 pub leave-requires-clause-at : goal.leave-requires-clause-at
 leave-requires-clause-at g c κs within =
