@@ -4,7 +4,8 @@ ghost use Rattle.core_steps.specs.Nodes.{home, inner_of_two};
 ghost use Rattle.core_steps.specs.Points.{Resolving};
 ghost use Rattle.core_steps.specs.Reads.{effect_loaded};
 ghost use Rattle.core_seats.specs.Refusals.{AreRefusals};
-ghost use Rattle.ruled_words.specs.Passes.{fixed_in, IsOwn};
+ghost use Rattle.ruled_words.specs.Hands.{IsOwnHand};
+ghost use Rattle.ruled_words.specs.Passes.{fixed_in};
 ghost use Rattle.ruled_words.specs.Straight.{AreHeldFor};
 ghost use Rattle.ruled_words.specs.Writing.{HasWritten};
 
@@ -50,12 +51,12 @@ impl<'a, A: Action> SharedWords<'a, A> {
         again: &LoadedPlayer,
         effect: &Effect,
     ) -> u64
-        requires own { IsOwn A.meaning self.now hand.old }
+        requires own { IsOwnHand A.meaning self.now hand.old }
         requires at { hand.old.view.point ≡ Resolving }
         requires effect { effect.now ≡ effect_loaded (fixed_in A.meaning self.now) hand.old.view }
         requires held { AreHeldFor (fixed_in A.meaning self.now) held.now hand.old.view }
         requires again_is { again.now ≡ hand.old.view.again }
-        ensures own { IsOwn A.meaning self.now hand.new }
+        ensures own { IsOwnHand A.meaning self.now hand.new }
         ensures written { HasWritten effect.now result hand.old hand.new }
         ensures refusals { AreRefusals refusals.old hand.old.view → AreRefusals refusals.new hand.new.view }
     {

@@ -7,6 +7,7 @@ ghost use Rattle.core_steps.specs.Nodes.{has, plan_of};
 ghost use Rattle.core_steps.specs.Points.{Idle};
 ghost use Rattle.core_steps.specs.Reads.{region_in};
 ghost use Rattle.core_seats.specs.Refusals.{AreRefusals};
+ghost use Rattle.ruled_words.specs.Hands.{IsOwnHand, plain_pass};
 ghost use Rattle.ruled_words.specs.Passes.{fixed_in, IsOwn};
 ghost use Rattle.region_locks.specs.Moves.{HasRun};
 ghost use Rattle.region_locks.specs.Quitting.{MayBegin};
@@ -44,11 +45,11 @@ fn hold_leaves<A: Action, R: Wait, G: Gate>(
     cmd: &Cmd,
     gate: &G,
 ) -> Held
-    requires own { IsOwn A.meaning words.now hand.old }
+    requires own { IsOwn A.meaning words.now (plain_pass hand.old) }
     requires idle { hand.old.view.point ≡ Idle }
     requires pending { IsPending (fixed_in A.meaning words.now) hand.old.view (command_of cmd.now) }
     requires serves { cmd.now.slot % length words.now.rooms ≡ hand.old.number }
-    ensures own { IsOwn A.meaning words.now hand.new }
+    ensures own { IsOwnHand A.meaning words.now hand.new }
     ensures holds { HoldsLeavesOf (fixed_in A.meaning words.now) (command_of cmd.now) result.own hand.old hand.new }
     ensures held { AreHeldFor (fixed_in A.meaning words.now) result hand.new.view }
     ensures refusals { AreRefusals refusals.old hand.old.view → AreRefusals refusals.new hand.new.view }
@@ -84,7 +85,7 @@ fn read_region<A: Action, R: Wait, G: Gate>(
     again: &LoadedPlayer,
     gate: &G,
 ) -> Effect
-    requires own { IsOwn A.meaning words.now hand.old }
+    requires own { IsOwnHand A.meaning words.now hand.old }
     requires at { let F = fixed_in A.meaning words.now in let v = hand.old.view in
         v.point ≡ visiting F v (plan_of F (region_in F v.cmd v.own)) }
     requires others { hand.old.view.others ≡ [] }
@@ -92,7 +93,7 @@ fn read_region<A: Action, R: Wait, G: Gate>(
     requires cmd_is { command_of cmd.now ≡ hand.old.view.cmd }
     requires again_is { again.now ≡ hand.old.view.again }
     requires room { 64 + length (fixed_in A.meaning words.now).start.ids ≤ near.old.room }
-    ensures own { IsOwn A.meaning words.now hand.new }
+    ensures own { IsOwnHand A.meaning words.now hand.new }
     ensures read { HasReadAll (fixed_in A.meaning words.now) result hand.old hand.new }
     ensures refusals { AreRefusals refusals.old hand.old.view → AreRefusals refusals.new hand.new.view }
     ensures room { near.new.room ≡ near.old.room }
@@ -115,12 +116,12 @@ fn run_hand<A: Action, R: Wait, G: Gate>(
     cmd: &Cmd,
     gate: &G,
 ) -> Entry
-    requires own { IsOwn A.meaning words.now hand.old }
+    requires own { IsOwn A.meaning words.now (plain_pass hand.old) }
     requires idle { hand.old.view.point ≡ Idle }
     requires pending { IsPending (fixed_in A.meaning words.now) hand.old.view (command_of cmd.now) }
     requires serves { cmd.now.slot % length words.now.rooms ≡ hand.old.number }
     requires room { 64 + length (fixed_in A.meaning words.now).start.ids ≤ near.old.room }
-    ensures own { IsOwn A.meaning words.now hand.new }
+    ensures own { IsOwnHand A.meaning words.now hand.new }
     ensures moved { HasMoved (command_of cmd.now) result hand.old hand.new }
     ensures refusals { AreRefusals refusals.old hand.old.view → AreRefusals refusals.new hand.new.view }
     ensures room { near.new.room ≡ near.old.room }
@@ -146,7 +147,6 @@ impl<'a, A: Action> NodeTable<'a, A> {
         ensures { HasRun (fixed_in A.meaning self.now) (length self.now.rooms) self.now.table pass.old pass.new
             (command_of cmd) result }
     {
-        pass.hand.is_plain();
         pass.mirror.forget();
         let entry = run_hand(
             &self.words,

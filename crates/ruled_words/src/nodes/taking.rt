@@ -4,7 +4,8 @@ ghost use Rattle.core_steps.specs.Steps.{point_after_take, view_after_refusal};
 ghost use Rattle.core_steps.specs.Points.{Taking, Checking};
 ghost use Rattle.core_steps.specs.Reads.{View};
 ghost use Rattle.core_seats.specs.Refusals.{AreRefusals};
-ghost use Rattle.ruled_words.specs.Passes.{fixed_in, IsOwn, next_in, node_taken_next, word_after};
+ghost use Rattle.ruled_words.specs.Hands.{IsOwnHand};
+ghost use Rattle.ruled_words.specs.Passes.{fixed_in, next_in, node_taken_next, word_after};
 ghost use Rattle.ruled_words.specs.Straight.{AreHeldFor, IsTriedOn};
 ghost use Rattle.ruled_words.specs.Tries.{IsTried, tried_until};
 ghost use Rattle.ruled_words.specs.WordSteps.{word_by};
@@ -44,12 +45,12 @@ impl<'a, A: Action> SharedWords<'a, A> {
         node: u8,
         new: u64,
     ) -> bool
-        requires own { IsOwn A.meaning self.now hand.old }
+        requires own { IsOwnHand A.meaning self.now hand.old }
         requires next { node_taken_next (next_in A.meaning self.now hand.old) ≡ Some node }
         requires word { (found : ℕ) → word_after (fixed_in A.meaning self.now) hand.old found
             ≡ word_by (WordStep.Take new) found }
         requires held { AreHeldFor (fixed_in A.meaning self.now) held.now hand.old.view }
-        ensures own { IsOwn A.meaning self.now hand.new }
+        ensures own { IsOwnHand A.meaning self.now hand.new }
         ensures pass { IsTried (fixed_in A.meaning self.now) hand.old hand.new result }
         ensures tried { IsTriedOn hand.old.tally hand.new.tally }
         ensures refusals { AreRefusals refusals.old hand.old.view → AreRefusals refusals.new hand.new.view }
@@ -69,17 +70,16 @@ impl<'a, A: Action> SharedWords<'a, A> {
         node: u8,
         new: u64,
     )
-        requires own { IsOwn A.meaning self.now hand.old }
+        requires own { IsOwnHand A.meaning self.now hand.old }
         requires next { next_in A.meaning self.now hand.old ≡ Some (TakeNode node) }
         requires word { (found : ℕ) → word_after (fixed_in A.meaning self.now) hand.old found
             ≡ word_by (WordStep.Take new) found }
         requires held { AreHeldFor (fixed_in A.meaning self.now) held.now hand.old.view }
-        ensures own { IsOwn A.meaning self.now hand.new }
+        ensures own { IsOwnHand A.meaning self.now hand.new }
         ensures view { hand.new ≡ tried_until hand.old (point_after_take node hand.old.view.point) hand.new }
         ensures tried { IsTriedOn hand.old.tally hand.new.tally }
         ensures refusals { AreRefusals refusals.old hand.old.view → AreRefusals refusals.new hand.new.view }
     {
-        hand.is_plain();
         for _ in rt.forever() {
             if self.try_node(hand, refusals, held, node, new) {
                 return;
@@ -97,15 +97,14 @@ impl<'a, A: Action> SharedWords<'a, A> {
         refusals: &mut Refusals,
         held: &Held,
     )
-        requires own { IsOwn A.meaning self.now hand.old }
+        requires own { IsOwnHand A.meaning self.now hand.old }
         requires at { hand.old.view.point ≡ Taking [] hand.old.view.wanted }
         requires held { AreHeldFor (fixed_in A.meaning self.now) held.now hand.old.view }
-        ensures own { IsOwn A.meaning self.now hand.new }
+        ensures own { IsOwnHand A.meaning self.now hand.new }
         ensures view { hand.new ≡ tried_until hand.old Checking hand.new }
         ensures tried { IsTriedOn hand.old.tally hand.new.tally }
         ensures refusals { AreRefusals refusals.old hand.old.view → AreRefusals refusals.new hand.new.view }
     {
-        hand.is_plain();
         // The word of a leaf that is held names the pass and the leaves of its command.
         let new = u64::from(hand.number) + NODE_HOLDERS * u64::from(held.leaves) + 1;
         let first = self.first_leaf();

@@ -5,7 +5,8 @@ ghost use Rattle.core_steps.specs.Nodes.{inner_nodes, inner_visited, plan_of};
 ghost use Rattle.core_steps.specs.Points.{Entering, Entered, Leaving};
 ghost use Rattle.core_steps.specs.Reads.{region_in};
 ghost use Rattle.core_seats.specs.Refusals.{AreRefusals};
-ghost use Rattle.ruled_words.specs.Passes.{fixed_in, IsOwn};
+ghost use Rattle.ruled_words.specs.Hands.{IsOwnHand};
+ghost use Rattle.ruled_words.specs.Passes.{fixed_in};
 ghost use Rattle.ruled_words.specs.Straight.{AreHeldFor, HasKept, IsTriedOn, in_view, in_view_with, nodes_read};
 ghost use Rattle.ruled_words.specs.Visits.{plan_left, read_until, under_until, visited_until};
 
@@ -28,15 +29,14 @@ impl<'a, A: Action> SharedWords<'a, A> {
         slot: u8,
         by_slot: &mut LoadedPlayers,
     ) -> u64
-        requires own { IsOwn A.meaning self.now hand.old }
+        requires own { IsOwnHand A.meaning self.now hand.old }
         requires at { hand.old.view.point ≡ Entered node (plan_left hand.old.view.point) }
         requires slot { slot ≡ hand.old.view.cmd.slot }
-        ensures own { IsOwn A.meaning self.now hand.new }
+        ensures own { IsOwnHand A.meaning self.now hand.new }
         ensures view { hand.new ≡ under_until (fixed_in A.meaning self.now) hand.old node [] hand.new }
         ensures kept { (seen : ℕ) → HasKept seen by_slot.old hand.old.view.others
             → HasKept (bit_or seen result) by_slot.new hand.new.view.others }
     {
-        hand.is_plain();
         let list = self.step_hand(hand, usize::from(list_word(node)), WordStep::Load);
         let players = without_bit(list, slot);
         let mut rest = players;
@@ -56,17 +56,16 @@ impl<'a, A: Action> SharedWords<'a, A> {
         held: &Held,
         by_slot: &mut LoadedPlayers,
     ) -> u64
-        requires own { IsOwn A.meaning self.now hand.old }
+        requires own { IsOwnHand A.meaning self.now hand.old }
         requires at { let F = fixed_in A.meaning self.now in let v = hand.old.view in
             v.point ≡ visiting F v (plan_of F (region_in F v.cmd v.own)) }
         requires held { AreHeldFor (fixed_in A.meaning self.now) held.now hand.old.view }
-        ensures own { IsOwn A.meaning self.now hand.new }
+        ensures own { IsOwnHand A.meaning self.now hand.new }
         ensures view { let F = fixed_in A.meaning self.now in let v = hand.old.view in
             hand.new ≡ read_until hand.old (visiting F v (inner_visited F (region_in F v.cmd v.own))) hand.new }
         ensures kept { (seen : ℕ) → HasKept seen by_slot.old hand.old.view.others
             → HasKept (bit_or seen result) by_slot.new hand.new.view.others }
     {
-        hand.is_plain();
         let first = self.first_leaf();
         let mut seen = 0;
         let mut rest = u64::from(held.leaves);
@@ -80,13 +79,12 @@ impl<'a, A: Action> SharedWords<'a, A> {
 
     /// Gives back the inner node, of which all is read.
     fn leave(&self, hand: &mut Hand, node: u8)
-        requires own { IsOwn A.meaning self.now hand.old }
+        requires own { IsOwnHand A.meaning self.now hand.old }
         requires at { hand.old.view.point ≡ Leaving node (plan_left hand.old.view.point) }
-        ensures own { IsOwn A.meaning self.now hand.new }
+        ensures own { IsOwnHand A.meaning self.now hand.new }
         ensures view { let v = hand.old.view in hand.new ≡ in_view hand.old
             (record v { point = visiting (fixed_in A.meaning self.now) v (plan_left v.point) }) }
     {
-        hand.is_plain();
         self.give_on(hand, node);
     }
 
@@ -100,11 +98,11 @@ impl<'a, A: Action> SharedWords<'a, A> {
         node: u8,
         by_slot: &mut LoadedPlayers,
     ) -> u64
-        requires own { IsOwn A.meaning self.now hand.old }
+        requires own { IsOwnHand A.meaning self.now hand.old }
         requires at { hand.old.view.point ≡ Entering node (plan_left hand.old.view.point) }
         requires inner { node < inner_nodes (fixed_in A.meaning self.now) }
         requires held { AreHeldFor (fixed_in A.meaning self.now) held.now hand.old.view }
-        ensures own { IsOwn A.meaning self.now hand.new }
+        ensures own { IsOwnHand A.meaning self.now hand.new }
         ensures view { hand.new ≡ visited_until hand.old
             (visiting (fixed_in A.meaning self.now) hand.old.view (plan_left hand.old.view.point)) hand.new }
         ensures tried { IsTriedOn hand.old.tally hand.new.tally }
@@ -112,7 +110,6 @@ impl<'a, A: Action> SharedWords<'a, A> {
         ensures kept { (seen : ℕ) → HasKept seen by_slot.old hand.old.view.others
             → HasKept (bit_or seen result) by_slot.new hand.new.view.others }
     {
-        hand.is_plain();
         // The word of an inner node that is held to read names the pass alone.
         let new = u64::from(hand.number) + 1;
         self.take_node(rt, hand, refusals, held, node, new);
@@ -131,11 +128,11 @@ impl<'a, A: Action> SharedWords<'a, A> {
         held: &Held,
         by_slot: &mut LoadedPlayers,
     ) -> u64
-        requires own { IsOwn A.meaning self.now hand.old }
+        requires own { IsOwnHand A.meaning self.now hand.old }
         requires at { let F = fixed_in A.meaning self.now in let v = hand.old.view in
             v.point ≡ visiting F v (inner_visited F (region_in F v.cmd v.own)) }
         requires held { AreHeldFor (fixed_in A.meaning self.now) held.now hand.old.view }
-        ensures own { IsOwn A.meaning self.now hand.new }
+        ensures own { IsOwnHand A.meaning self.now hand.new }
         ensures view { hand.new ≡ visited_until hand.old
             (visiting (fixed_in A.meaning self.now) hand.old.view []) hand.new }
         ensures tried { IsTriedOn hand.old.tally hand.new.tally }
@@ -143,7 +140,6 @@ impl<'a, A: Action> SharedWords<'a, A> {
         ensures kept { (seen : ℕ) → HasKept seen by_slot.old hand.old.view.others
             → HasKept (bit_or seen result) by_slot.new hand.new.view.others }
     {
-        hand.is_plain();
         let mut seen = 0;
         let mut rest = u64::from(held.inner);
         while rest != 0 {
@@ -164,12 +160,12 @@ impl<'a, A: Action> SharedWords<'a, A> {
         held: &Held,
         by_slot: &mut LoadedPlayers,
     ) -> u64
-        requires own { IsOwn A.meaning self.now hand.old }
+        requires own { IsOwnHand A.meaning self.now hand.old }
         requires at { let F = fixed_in A.meaning self.now in let v = hand.old.view in
             v.point ≡ visiting F v (plan_of F (region_in F v.cmd v.own)) }
         requires others { hand.old.view.others ≡ [] }
         requires held { AreHeldFor (fixed_in A.meaning self.now) held.now hand.old.view }
-        ensures own { IsOwn A.meaning self.now hand.new }
+        ensures own { IsOwnHand A.meaning self.now hand.new }
         ensures view { hand.new ≡ in_view_with hand.old
             (nodes_read (fixed_in A.meaning self.now) hand.old.view hand.new.view) hand.new.tally }
         ensures tried { IsTriedOn hand.old.tally hand.new.tally }

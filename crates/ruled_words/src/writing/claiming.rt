@@ -3,7 +3,8 @@ ghost use Rattle.core_steps.specs.Points.{Resolving, Claiming};
 ghost use Rattle.core_steps.specs.Reads.{effect_loaded};
 ghost use Rattle.core_steps.specs.Steps.{first, view_after_take, view_after_claim};
 ghost use Rattle.core_seats.specs.Refusals.{AreRefusals};
-ghost use Rattle.ruled_words.specs.Passes.{fixed_in, IsOwn};
+ghost use Rattle.ruled_words.specs.Hands.{IsOwnHand};
+ghost use Rattle.ruled_words.specs.Passes.{fixed_in};
 ghost use Rattle.ruled_words.specs.Straight.{AreHeldFor};
 ghost use Rattle.ruled_words.specs.Writing.{HasTried, nodes_written, nodes_held, claims_left, view_with_claims};
 
@@ -36,22 +37,20 @@ impl<'a, A: Action> SharedWords<'a, A> {
         effect: &Effect,
         node: u8,
     ) -> bool
-        requires own { IsOwn A.meaning self.now hand.old }
+        requires own { IsOwnHand A.meaning self.now hand.old }
         requires at { hand.old.view.point ≡ Resolving }
         requires effect { effect.now ≡ effect_loaded (fixed_in A.meaning self.now) hand.old.view }
         requires next { first (nodes_written (fixed_in A.meaning self.now) hand.old.view effect.now) ≡ Some node }
         requires held { AreHeldFor (fixed_in A.meaning self.now) held.now hand.old.view }
-        ensures own { IsOwn A.meaning self.now hand.new }
+        ensures own { IsOwnHand A.meaning self.now hand.new }
         ensures tried { HasTried hand.old (if result
             then view_after_claim (fixed_in A.meaning self.now) effect.now node hand.old.view
             else hand.old.view) hand.new }
         ensures refusals { AreRefusals refusals.old hand.old.view → AreRefusals refusals.new hand.new.view }
     {
-        hand.is_plain();
         let word = usize::from(node_word(node));
         let new = writing_word(hand.number);
         let found = self.step_resolved(hand, effect, word, WordStep::Take(new));
-        hand.is_plain();
         note_refused(refusals, held, node, found)
     }
 
@@ -65,17 +64,16 @@ impl<'a, A: Action> SharedWords<'a, A> {
         effect: &Effect,
         node: u8,
     )
-        requires own { IsOwn A.meaning self.now hand.old }
+        requires own { IsOwnHand A.meaning self.now hand.old }
         requires at { hand.old.view.point ≡ Resolving }
         requires effect { effect.now ≡ effect_loaded (fixed_in A.meaning self.now) hand.old.view }
         requires next { first (nodes_written (fixed_in A.meaning self.now) hand.old.view effect.now) ≡ Some node }
         requires held { AreHeldFor (fixed_in A.meaning self.now) held.now hand.old.view }
-        ensures own { IsOwn A.meaning self.now hand.new }
+        ensures own { IsOwnHand A.meaning self.now hand.new }
         ensures tried { HasTried hand.old
             (view_after_claim (fixed_in A.meaning self.now) effect.now node hand.old.view) hand.new }
         ensures refusals { AreRefusals refusals.old hand.old.view → AreRefusals refusals.new hand.new.view }
     {
-        hand.is_plain();
         for _ in rt.forever() {
             if self.try_first(hand, refusals, held, effect, node) {
                 return;
@@ -94,15 +92,14 @@ impl<'a, A: Action> SharedWords<'a, A> {
         held: &Held,
         node: u8,
     )
-        requires own { IsOwn A.meaning self.now hand.old }
+        requires own { IsOwnHand A.meaning self.now hand.old }
         requires at { hand.old.view.point
             ≡ Claiming (nodes_held hand.old.view.point) (node ∷ claims_left hand.old.view.point) }
         requires held { AreHeldFor (fixed_in A.meaning self.now) held.now hand.old.view }
-        ensures own { IsOwn A.meaning self.now hand.new }
+        ensures own { IsOwnHand A.meaning self.now hand.new }
         ensures tried { HasTried hand.old (view_after_take node hand.old.view) hand.new }
         ensures refusals { AreRefusals refusals.old hand.old.view → AreRefusals refusals.new hand.new.view }
     {
-        hand.is_plain();
         let new = writing_word(hand.number);
         self.take_node(rt, hand, refusals, held, node, new);
     }
@@ -118,16 +115,15 @@ impl<'a, A: Action> SharedWords<'a, A> {
         effect: &Effect,
         nodes: &[u8],
     )
-        requires own { IsOwn A.meaning self.now hand.old }
+        requires own { IsOwnHand A.meaning self.now hand.old }
         requires at { hand.old.view.point ≡ Resolving }
         requires effect { effect.now ≡ effect_loaded (fixed_in A.meaning self.now) hand.old.view }
         requires nodes { nodes.now ≡ nodes_written (fixed_in A.meaning self.now) hand.old.view effect.now }
         requires held { AreHeldFor (fixed_in A.meaning self.now) held.now hand.old.view }
-        ensures own { IsOwn A.meaning self.now hand.new }
+        ensures own { IsOwnHand A.meaning self.now hand.new }
         ensures tried { HasTried hand.old (view_with_claims (fixed_in A.meaning self.now) effect.now hand.old.view) hand.new }
         ensures refusals { AreRefusals refusals.old hand.old.view → AreRefusals refusals.new hand.new.view }
     {
-        hand.is_plain();
         if nodes.is_empty() {
             return;
         }

@@ -9,7 +9,7 @@ use Rattle.ruled_words.proofs.Claims.{holds_still, tries_none, tries_on, tried_w
 use Rattle.ruled_words.proofs.shared_words.SharedWords.claim_first.Goals as goal
 
 pub loop-init : goal.loop-init
-loop-init g c = (tt, tt, tries_none (fixed_in g.A.Action.meaning c.args.self.now) (length c.args.self.now.rooms) c.args.self.now.table c.args.hand.now c.requires.own c.is_plain.ensures, λ are. are)
+loop-init g c = (tt, tt, tries_none (fixed_in g.A.Action.meaning c.args.self.now) (length c.args.self.now.rooms) c.args.self.now.table c.args.hand.now c.requires.own, λ are. are)
 
 pub try_first-requires-clause-own : goal.try_first-requires-clause-own
 try_first-requires-clause-own g c κs within = c.loop.invariant.2.own

@@ -27,7 +27,7 @@ loop-place-init g c =
     let F = fixed_in g.A.Action.meaning c.args.self.now in
     record {
       own = c.requires.own;
-      sensed = sensed_none F c.map_things-things.result.now c.args.region.now c.map_things-things.ensures c.ids_rise.ensures c.args.hand.now c.args.near.now.items c.is_plain.ensures
+      sensed = sensed_none F c.map_things-things.result.now c.args.region.now c.map_things-things.ensures c.ids_rise.ensures c.args.hand.now c.args.near.now.items c.requires.own.plain
           (c.requires.at ∙ ap (λ (region : List Bounds). sensing (things_in F region)) (sym c.requires.region_is)) c.requires.few;
       room = refl;
       within = omega arith;

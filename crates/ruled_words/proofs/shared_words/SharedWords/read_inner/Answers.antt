@@ -16,7 +16,7 @@ loop-rest-init g c =
     let same = c.from-rest.ensures in
     let inner = inner_list_is F (region_in F c.args.hand.now.view.cmd c.args.hand.now.view.own) _ c.args.held.now.inner refl (inner_of_command F c.args.held.now c.args.hand.now.view c.requires.held) in (
       c.requires.own,
-      inner_start (fixed_in g.A.Action.meaning c.args.self.now) c.args.hand.now c.args.held.now.inner c.is_plain.ensures (c.requires.at ∙ ap (visiting (fixed_in g.A.Action.meaning c.args.self.now) c.args.hand.now.view) inner)
+      inner_start (fixed_in g.A.Action.meaning c.args.self.now) c.args.hand.now c.args.held.now.inner c.requires.own.plain (c.requires.at ∙ ap (visiting (fixed_in g.A.Action.meaning c.args.self.now) c.args.hand.now.view) inner)
           ∙ ap (λ (n : ℕ). inner_until (fixed_in g.A.Action.meaning c.args.self.now) c.args.hand.now n c.args.hand.now) (sym c.from-rest.ensures),
       λ seen kept. none_kept_yet seen c.args.by_slot.now c.args.hand.now.view.others kept,
       omega (arith, same),
@@ -37,7 +37,7 @@ visit_inner-seen-requires-clause-at g c κs within =
     let few = c.loop-rest.invariant.3 in
     let small = inner_small F _ c.args.held.now.inner c.loop-rest.rest (inner_of_command F c.args.held.now c.args.hand.now.view c.requires.held) few in
     let below = bit_below (inner_nodes F) c.loop-rest.rest c.lowest_bit-node.result small c.lowest_bit-node.ensures.there in
-    let first = bits_first (inner_nodes F) c.loop-rest.rest c.without_bit-rest.result c.lowest_bit-node.result below (inner_few F c.requires.own.sound_sight.sound.depth) c.lowest_bit-node.ensures.there c.lowest_bit-node.ensures.first c.without_bit-rest.ensures.bits in
+    let first = bits_first (inner_nodes F) c.loop-rest.rest c.without_bit-rest.result c.lowest_bit-node.result below (inner_few F c.requires.own.pass.sound_sight.sound.depth) c.lowest_bit-node.ensures.there c.lowest_bit-node.ensures.first c.without_bit-rest.ensures.bits in
     now_entering F c.args.hand.now c.loop-rest.rest c.without_bit-rest.result c.lowest_bit-node.result below first c.loop-rest.hand c.loop-rest.invariant.1
 
 pub visit_inner-seen-requires-clause-held : goal.visit_inner-seen-requires-clause-held
@@ -49,7 +49,7 @@ loop-rest-preserved g c =
     let few = c.loop-rest.invariant.3 in
     let small = inner_small F _ c.args.held.now.inner c.loop-rest.rest (inner_of_command F c.args.held.now c.args.hand.now.view c.requires.held) few in
     let below = bit_below (inner_nodes F) c.loop-rest.rest c.lowest_bit-node.result small c.lowest_bit-node.ensures.there in
-    let first = bits_first (inner_nodes F) c.loop-rest.rest c.without_bit-rest.result c.lowest_bit-node.result below (inner_few F c.requires.own.sound_sight.sound.depth) c.lowest_bit-node.ensures.there c.lowest_bit-node.ensures.first c.without_bit-rest.ensures.bits in
+    let first = bits_first (inner_nodes F) c.loop-rest.rest c.without_bit-rest.result c.lowest_bit-node.result below (inner_few F c.requires.own.pass.sound_sight.sound.depth) c.lowest_bit-node.ensures.there c.lowest_bit-node.ensures.first c.without_bit-rest.ensures.bits in
     let less = c.without_bit-rest.ensures.less c.lowest_bit-node.ensures.there in (
       c.visit_inner-seen.ensures.own,
       inner_more F c.args.hand.now c.loop-rest.rest c.without_bit-rest.result c.lowest_bit-node.result below first c.loop-rest.hand c.loop-rest.invariant.1 c.visit_inner-seen.new.hand c.visit_inner-seen.ensures.view,

@@ -41,4 +41,4 @@ returns-clause-refusals g c = c.loop-i.invariant.1
 
 pub returns-then-is_empty-clause-tried : goal.returns-then-is_empty-clause-tried
 returns-then-is_empty-clause-tried g c =
-    claims_none (fixed_in g.A.Action.meaning c.args.self.now) (length c.args.self.now.rooms) c.args.self.now.table c.args.hand.now c.args.effect.now c.requires.own c.is_plain.ensures c.requires.at (sym c.requires.nodes ∙ no_nodes c.args.nodes.now (sym c.is_empty.ensures ∙ c.if-is_empty.true))
+    claims_none (fixed_in g.A.Action.meaning c.args.self.now) (length c.args.self.now.rooms) c.args.self.now.table c.args.hand.now c.args.effect.now c.requires.own c.requires.at (sym c.requires.nodes ∙ no_nodes c.args.nodes.now (sym c.is_empty.ensures ∙ c.if-is_empty.true))

@@ -11,7 +11,7 @@ step_hand-found-requires-clause-comes g c κs within = taken_there _ _ c.require
 
 pub step_hand-found-requires-clause-index : goal.step_hand-found-requires-clause-index
 step_hand-found-requires-clause-index g c κs within =
-    c.from.ensures ∙ c.node_word.ensures ∙ sym (taken_index (fixed_in g.A.Action.meaning c.args.self.now) c.args.hand.now c.args.node _ (takes_next _ _ _ _ _ c.requires.own c.requires.next))
+    c.from.ensures ∙ c.node_word.ensures ∙ sym (taken_index (fixed_in g.A.Action.meaning c.args.self.now) c.args.hand.now c.args.node _ (takes_next _ _ _ _ _ c.requires.own.pass c.requires.next))
 
 pub returns-clause-tried : goal.returns-clause-tried
 returns-clause-tried g c =

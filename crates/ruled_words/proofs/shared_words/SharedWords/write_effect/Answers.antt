@@ -15,11 +15,11 @@ pub homes-old-requires-clause-before : goal.homes-old-requires-clause-before
 homes-old-requires-clause-before g c κs within =
     let before : c.read_record.result ≡ record_read c.args.hand.now.view.cmd.slot c.args.hand.now.view.again = c.read_record.ensures ∙ (λ i. record_read (c.requires.held.slot_is i) (c.requires.again_is i)) in
     subst IsRecord (sym before)
-    (before_is_record (fixed_in g.A.Action.meaning c.args.self.now) c.args.hand.now.view c.requires.own.sound_sight.sound Resolving ((subst IsLawful (ap (fixed_of g.A.Action.meaning) c.self.invariant.1 ∙ ap (fixed_in g.A.Action.meaning) c.self.view_is) c.is_lawful.ensures).validity) c.requires.at refl refl)
+    (before_is_record (fixed_in g.A.Action.meaning c.args.self.now) c.args.hand.now.view c.requires.own.pass.sound_sight.sound Resolving ((subst IsLawful (ap (fixed_of g.A.Action.meaning) c.self.invariant.1 ∙ ap (fixed_in g.A.Action.meaning) c.self.view_is) c.is_lawful.ensures).validity) c.requires.at refl refl)
 
 pub homes-old-requires-clause-after : goal.homes-old-requires-clause-after
 homes-old-requires-clause-after g c κs within =
-    loaded_is_record (fixed_in g.A.Action.meaning c.args.self.now) c.args.hand.now.view c.requires.own.sound_sight.sound c.args.effect.now ((subst IsLawful (ap (fixed_of g.A.Action.meaning) c.self.invariant.1 ∙ ap (fixed_in g.A.Action.meaning) c.self.view_is) c.is_lawful.ensures).validity) c.requires.at c.requires.effect
+    loaded_is_record (fixed_in g.A.Action.meaning c.args.self.now) c.args.hand.now.view c.requires.own.pass.sound_sight.sound c.args.effect.now ((subst IsLawful (ap (fixed_of g.A.Action.meaning) c.self.invariant.1 ∙ ap (fixed_in g.A.Action.meaning) c.self.view_is) c.is_lawful.ensures).validity) c.requires.at c.requires.effect
 
 pub take_write_nodes-requires-clause-nodes : goal.take_write_nodes-requires-clause-nodes
 take_write_nodes-requires-clause-nodes g c κs within =
