@@ -60,7 +60,6 @@ impl<'a, A: Action> SharedWords<'a, A> {
         ensures written { HasWritten effect.now result hand.old hand.new }
         ensures refusals { AreRefusals refusals.old hand.old.view → AreRefusals refusals.new hand.new.view }
     {
-        self.rules.is_lawful();
         let (old, new) = self.homes(&read_record(held.slot, again), effect);
         let queue = self.write_nodes(old, new);
         let nodes = queue.as_slice();

@@ -3,8 +3,6 @@ use Rattle.entity_recs.specs.Records.{IsRecord}
 use Rattle.core_steps.specs.Nodes.{home, inner_of_two}
 use Rattle.core_steps.specs.Points.{Resolving}
 use Rattle.core_steps.specs.Reads.{View, effect_loaded, record_read}
-use Rattle.core_steps.specs.Stands.{IsLawful}
-use Rattle.core_seats.specs.Shown.{fixed_of}
 use Rattle.core_seats.proofs.Rooms.{before_is_record, loaded_is_record}
 use Rattle.ruled_words.specs.Passes.{PassView, fixed_in}
 use Rattle.ruled_words.specs.Writing.{nodes_written}
@@ -13,13 +11,15 @@ use Rattle.ruled_words.proofs.shared_words.SharedWords.write_effect.Goals as goa
 
 pub homes-old-requires-clause-before : goal.homes-old-requires-clause-before
 homes-old-requires-clause-before g c κs within =
+    let laws = g.met.A.Action g.world.𝓛 g.world.𝓜 g.world.𝓡 ((λ s x. x), (λ x. x), (λ x. x), λ x. x) in
     let before : c.read_record.result ≡ record_read c.args.hand.now.view.cmd.slot c.args.hand.now.view.again = c.read_record.ensures ∙ (λ i. record_read (c.requires.held.slot_is i) (c.requires.again_is i)) in
     subst IsRecord (sym before)
-    (before_is_record (fixed_in g.A.Action.meaning c.args.self.now) c.args.hand.now.view c.requires.own.pass.sound_sight.sound Resolving ((subst IsLawful (ap (fixed_of g.A.Action.meaning) c.self.invariant.1 ∙ ap (fixed_in g.A.Action.meaning) c.self.view_is) c.is_lawful.ensures).validity) c.requires.at refl refl)
+    (before_is_record (fixed_in g.A.Action.meaning c.args.self.now) c.args.hand.now.view c.requires.own.pass.sound_sight.sound Resolving (laws.validity c.args.self.now.action) c.requires.at refl refl)
 
 pub homes-old-requires-clause-after : goal.homes-old-requires-clause-after
 homes-old-requires-clause-after g c κs within =
-    loaded_is_record (fixed_in g.A.Action.meaning c.args.self.now) c.args.hand.now.view c.requires.own.pass.sound_sight.sound c.args.effect.now ((subst IsLawful (ap (fixed_of g.A.Action.meaning) c.self.invariant.1 ∙ ap (fixed_in g.A.Action.meaning) c.self.view_is) c.is_lawful.ensures).validity) c.requires.at c.requires.effect
+    let laws = g.met.A.Action g.world.𝓛 g.world.𝓜 g.world.𝓡 ((λ s x. x), (λ x. x), (λ x. x), λ x. x) in
+    loaded_is_record (fixed_in g.A.Action.meaning c.args.self.now) c.args.hand.now.view c.requires.own.pass.sound_sight.sound c.args.effect.now (laws.validity c.args.self.now.action) c.requires.at c.requires.effect
 
 pub take_write_nodes-requires-clause-nodes : goal.take_write_nodes-requires-clause-nodes
 take_write_nodes-requires-clause-nodes g c κs within =
