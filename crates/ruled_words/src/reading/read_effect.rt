@@ -74,7 +74,6 @@ impl<'a, A: Action> SharedWords<'a, A> {
         ensures resolved { IsOwn A.meaning self.now (pass_keeping hand.new result) }
         ensures room { near.new.room ≡ near.old.room }
     {
-        self.ids_rise();
         near.clear();
         self.put_players(seen, by_slot, region, cmd.slot, near);
         self.load_states(hand, region, near);

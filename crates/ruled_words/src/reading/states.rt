@@ -21,16 +21,10 @@ use entity_recs::{Action, Rec};
 use world_tree::NearList;
 
 impl<'a, A: Action> SharedWords<'a, A> {
-    /// The ids of the start rise.
-    pub(crate) fn ids_rise(&self)
-        ensures { IsStrictlyIncreasing (fixed_in A.meaning self.now).start.ids }
-    {
-        self.rules.is_ruled();
-    }
-
     /// The things of the map at the start, in rising id.
     fn map_things(&self) -> &[Rec]
-        ensures { AreThings (fixed_in A.meaning self.now) result.now }
+        ensures things { AreThings (fixed_in A.meaning self.now) result.now }
+        ensures rise { IsStrictlyIncreasing (fixed_in A.meaning self.now).start.ids }
     {
         self.rules.map_things()
     }
@@ -73,9 +67,9 @@ impl<'a, A: Action> SharedWords<'a, A> {
             (record hand.old.view { states = hand.new.view.states; point = Resolving }) }
         ensures near { near.new.items ≡ near.old.items ++ things_loaded (fixed_in A.meaning self.now) region.now
             hand.new.view.states }
+        ensures rise { IsStrictlyIncreasing (fixed_in A.meaning self.now).start.ids }
         ensures room { near.new.room ≡ near.old.room }
     {
-        self.ids_rise();
         let bits = self.thing_bits(region);
         let things = self.map_things();
         let mut at = 0;
