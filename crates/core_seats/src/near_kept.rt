@@ -113,6 +113,7 @@ fn put_slots(slots: u64, by_slot: &LoadedPlayers, region: &Region, list: &mut Ne
 
 impl<'a, A: Action> Rules<'a, A> {
     ghost use Rattle.std.specs.Prelude.{◌≡◌, ◌<◌, ◌≤◌, [], length};
+    ghost use Rattle.std.specs.List.Sorted.{IsStrictlyIncreasing};
     ghost use Rattle.core_seats.specs.NearKept.{AreThings, players_kept};
     ghost use Rattle.core_seats.specs.ThingStrips.{MarksThings};
     ghost use Rattle.core_seats.specs.Shown.{fixed_of};
@@ -145,7 +146,8 @@ impl<'a, A: Action> Rules<'a, A> {
 
     /// The things of the map at the start, in rising id.
     pub fn map_things(&self) -> &[Rec]
-        ensures { AreThings (fixed_of A.meaning self.now) result.now }
+        ensures things { AreThings (fixed_of A.meaning self.now) result.now }
+        ensures rise { IsStrictlyIncreasing (fixed_of A.meaning self.now).start.ids }
     {
         &self.start.as_slice()[self.first_thing..]
     }

@@ -1,5 +1,5 @@
 -- What a move leaves of its pass, by what its hand ran.
-use Rattle.std.proofs.Common.{◌≡◌, ℕ, suc, ◌+◌, false, if◌then◌else◌, [], ◌∷◌, ◌++◌, sym, ap, ◌∙◌, subst, inl, inr, Option, None, is_some, arith}
+use Rattle.std.proofs.Common.{◌≡◌, ℕ, suc, ◌+◌, false, if◌then◌else◌, [], ◌∷◌, ◌++◌, refl, sym, ap, ◌∙◌, subst, inl, inr, Option, None, is_some, arith}
 use Rattle.std.proofs.lemmas.Bool.{cases_Bool, false≢true}
 use Rattle.atomic_table.specs.Seated.{TableId}
 use Rattle.entity_recs.specs.declared.effect.Effect.{Effect}
@@ -14,7 +14,7 @@ use Rattle.core_seats.specs.Refusals.{AreRefusals, last_of}
 use Rattle.core_seats.specs.Ready.{is_resolving}
 use Rattle.core_seats.specs.Seats.{view_of, given_of}
 use Rattle.ruled_words.specs.Passes.{PassView, AreCounted, IsPassOf}
-use Rattle.ruled_words.specs.Hands.{IsPlain, pass_view}
+use Rattle.ruled_words.specs.Hands.{pass_view, plain_pass}
 use Rattle.ruled_words.proofs.TriedTakes.{counted_more}
 use Rattle.region_locks.specs.Pursuits.{item_of}
 use Rattle.region_locks.specs.Quitting.{MayBegin}
@@ -39,9 +39,8 @@ count_given o = if is_some o then 1 else 0
 none_given : (o : Option Command) → o ≡ None → count_given o ≡ 0
 none_given o none = ap count_given none
 
-module _ (F : Fixed) (passes : ℕ) (table : TableId) (p hand done : PassView) (mirror after : Seat) (effect : Option Effect) (c : Command) (e : Entry)
-    (is : pass_view hand mirror effect ≡ p) (mirrors : view_of mirror ≡ hand.view) (plain : IsPlain hand) (own : IsPassOf F passes table p) (free : MayBegin p)
-    (moved : HasMoved c e hand done) (own_done : IsPassOf F passes table done) where
+module _ (F : Fixed) (passes : ℕ) (table : TableId) (p hand : PassView) (mirror : Seat) (effect : Option Effect)
+    (is : pass_view hand mirror effect ≡ p) (mirrors : view_of mirror ≡ hand.view) (own : IsPassOf F passes table p) (free : MayBegin p) where
   quits_not : p.quits ≡ false
   quits_not = elim (cases_Bool p.quits) [
     | inl quits ↦ absurd (false≢true (sym (ap is_taking free.idle) ∙ own.may_quit quits))
@@ -51,17 +50,22 @@ module _ (F : Fixed) (passes : ℕ) (table : TableId) (p hand done : PassView) (
   none_kept : p.effect ≡ None
   none_kept = own.only_resolving (ap is_resolving free.idle)
 
-  pub hand_is : hand ≡ p
+  -- a pass that rests is that of its hand
+  pub hand_is : plain_pass hand ≡ p
   hand_is =
       (λ i. record hand {
-        given = (plain.given ∙ sym (ap (λ (q : PassView). q.given) is ∙ free.none)) i;
-        quits = (plain.quits ∙ sym (ap (λ (q : PassView). q.quits) is ∙ quits_not)) i;
-        effect = (plain.effect ∙ sym (ap (λ (q : PassView). q.effect) is ∙ none_kept)) i;
+        given = sym (ap (λ (q : PassView). q.given) is ∙ free.none) i;
+        quits = sym (ap (λ (q : PassView). q.quits) is ∙ quits_not) i;
+        effect = sym (ap (λ (q : PassView). q.effect) is ∙ none_kept) i;
         view = sym mirrors i;
       })
       ∙ is
 
-  module _ (given : given_of after ≡ given_of mirror) (quits : after.quits ≡ mirror.quits) (follows : view_of after ≡ done_with c e hand.view done.view) where
+  pub hand_own : IsPassOf F passes table (plain_pass hand)
+  hand_own = subst (IsPassOf F passes table) (sym hand_is) own
+
+  module _ (done : PassView) (after : Seat) (c : Command) (e : Entry) (moved : HasMoved c e hand done) (own_done : IsPassOf F passes table done)
+      (given : given_of after ≡ given_of mirror) (quits : after.quits ≡ mirror.quits) (follows : view_of after ≡ done_with c e hand.view done.view) where
     done_is : done ≡ pass_view done after effect
     done_is = λ i. record done {
       given = (ap (λ (q : PassView). q.given) moved.hand ∙ sym (given ∙ ap (λ (q : PassView). q.given) is ∙ free.none)) i;
@@ -70,7 +74,7 @@ module _ (F : Fixed) (passes : ℕ) (table : TableId) (p hand done : PassView) (
       view = (ap (λ (q : PassView). q.view) moved.hand ∙ sym follows) i;
     }
 
-    hand_ran : HasRun F passes table hand done c e
+    hand_ran : HasRun F passes table (plain_pass hand) done c e
     hand_ran = record {
       own = own_done;
       rests = record { given = ap (λ (q : PassView). q.given) moved.hand; idle = ap (λ (q : PassView). q.view.point) moved.hand };
@@ -81,9 +85,9 @@ module _ (F : Fixed) (passes : ℕ) (table : TableId) (p hand done : PassView) (
       seq = moved.seq;
       place = moved.place;
       seen = ap (λ (q : PassView). q.view.seen) moved.hand ∙ next_is e.place;
-      given = one_more done.tally.begun hand.tally.begun _ _ moved.begun (none_given done.given (ap (λ (q : PassView). q.given) moved.hand)) (none_given hand.given plain.given);
+      given = one_more done.tally.begun hand.tally.begun _ _ moved.begun (none_given done.given (ap (λ (q : PassView). q.given) moved.hand)) refl;
       listed = moved.listed;
-      counted = counted_more hand done moved.listed (subst (λ (q : PassView). AreCounted q.view.refusals q.tally.refused) (sym hand_is) own.counted) own_done.counted;
+      counted = counted_more (plain_pass hand) done moved.listed (subst (λ (q : PassView). AreCounted q.view.refusals q.tally.refused) (sym hand_is) own.counted) own_done.counted;
     }
       where
         next_is : (n : ℕ) → suc n ≡ n + 1

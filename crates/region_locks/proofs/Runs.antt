@@ -1,17 +1,14 @@
 -- The parts of a move as straight code, one after another.
-use Rattle.std.proofs.Common.{◌≡◌, ℕ, suc, ◌+◌, ◌^◌, ◌<◌, ◌≤◌, true, List, [], ◌∷◌, ◌++◌, refl, sym, ap, ◌∙◌, subst, Some}
+use Rattle.std.proofs.Common.{◌≡◌, ℕ, suc, ◌≤◌, true, List, [], ◌∷◌, ◌++◌, refl, sym, ap, ◌∙◌, subst, Some}
 use Rattle.std.specs.Prelude.{◌&&◌}
-use Rattle.arena_geo.specs.Bounds.{Bounds}
-use Rattle.areanode.specs.Trees.{leaves_of}
 use Rattle.entity_recs.specs.declared.effect.Effect.{Effect}
 use Rattle.entity_recs.specs.declared.effect.Entry.{Entry}
 use Rattle.entity_recs.specs.Commands.{Command}
 use Rattle.entity_recs.specs.Histories.{entry_of}
-use Rattle.core_steps.specs.Steps.{item_at, visiting}
+use Rattle.core_steps.specs.Steps.{visiting}
 use Rattle.core_steps.specs.Nodes.{Fixed, plan_of}
-use Rattle.core_steps.specs.Points.{Point, stage_of, is_committed, Checking, Resolving, Releasing}
+use Rattle.core_steps.specs.Points.{Point, stage_of, is_committed, Checking, Resolving}
 use Rattle.core_steps.specs.Reads.{View, without_command, region_in}
-use Rattle.core_steps.specs.Held.{leaf_word}
 use Rattle.core_seats.specs.Ready.{is_resolving}
 use Rattle.core_seats.specs.declared.refusals.Refusals.{Refusals}
 use Rattle.core_seats.specs.Refusals.{AreRefusals}
@@ -19,14 +16,13 @@ use Rattle.ruled_words.specs.Sights.{Tally}
 use Rattle.ruled_words.specs.Passes.{PassView}
 use Rattle.ruled_words.specs.Hands.{pass_keeping}
 use Rattle.ruled_words.specs.Straight.{in_view, in_view_with, taking_leaves, at_point, nodes_read, HasMoreInFront, IsTriedOn}
+use Rattle.ruled_words.specs.declared.held.Held.{Held}
 use Rattle.ruled_words.specs.Tries.{tried_until}
-use Rattle.ruled_words.specs.Writing.{as_tried, HasTried, view_after_stores}
+use Rattle.ruled_words.specs.Writing.{HasWritten, all_written}
 use Rattle.region_locks.specs.declared.gate_point.GatePoint.TheVariants.{Leaves, Computed, Committed}
 use Rattle.region_locks.specs.Pursuits.{HoldsLeavesAlone, is_checking, item_of}
 use Rattle.region_locks.specs.Moments.{IsAtPoint}
-use Rattle.region_locks.specs.declared.moving.held.Held.{Held}
-use Rattle.region_locks.specs.Runs.{HoldsLeavesOf, HasReadAll, HasWritten, HasMoved, all_read, all_written}
-use Rattle.ruled_words.proofs.LeafWords.{leaf_word_is}
+use Rattle.region_locks.specs.Runs.{HoldsLeavesOf, HasReadAll, HasMoved, all_read}
 use Rattle.ruled_words.proofs.LoadedWords.{visiting_same}
 use Rattle.ruled_words.proofs.TriedTakes.{more_again, more_still, tried_again}
 
@@ -44,11 +40,6 @@ refusals_kept r v w count last are = record { count = are.count ∙ count; last 
 -- ---- the leaves are taken
 
 module _ (F : Fixed) (c : Command) (words : List ℕ) (old at new : PassView) (first : at ≡ in_view_with old (taking_leaves F c words old.view) (record old.tally { begun = suc old.tally.begun })) where
-  pub leaves_word : (leaves : ℕ) (region : List Bounds) → leaves ≡ leaves_of F.tree region → region ≡ region_in F at.view.cmd at.view.own → leaves ≡ leaf_word F at.view.wanted
-  leaves_word leaves region are is =
-      are ∙ ap (λ (r : List Bounds). leaves_of F.tree r) (is ∙ ap (λ (p : PassView). region_in F p.view.cmd p.view.own) first)
-      ∙ sym (leaf_word_is F (region_in F c words)) ∙ sym (ap (λ (p : PassView). leaf_word F p.view.wanted) first)
-
   module _ (second : new ≡ tried_until at Checking new) where
     pub held_point : IsAtPoint new Leaves
     held_point = record {
@@ -107,35 +98,6 @@ module _ (F : Fixed) (old at new : PassView) (first : at ≡ in_view_with old (n
     alone = subst (λ (p : PassView). HoldsLeavesAlone (pass_keeping p e)) (sym both) (record { busy = refl; leaves = refl; inner = λ G. refl; stores = refl });
   }
 
--- ---- the effect is written
-
-module _ (F : Fixed) (e : Effect) (place : ℕ) (nodes : List ℕ) (old at new : PassView) (first : HasTried old (view_after_stores F place e nodes old.view) at)
-    (second : new ≡ in_view at (record at.view { point = Releasing [] })) where
-  done : new ≡ in_view_with old (record (as_tried (view_after_stores F place e nodes old.view) at.view) { point = Releasing [] }) at.tally
-  done = second ∙ ap (λ (p : PassView). in_view p (record p.view { point = Releasing [] })) first.hand
-
-  pub written_all : old.view.seen ≤ place → place + 1 < 2 ^ 64 → HasWritten e place old new
-  written_all seen small =
-      let count : at.view.refusals ≡ new.view.refusals = sym (ap (λ (p : PassView). p.view.refusals) done) in
-      let last : at.view.refused ≡ new.view.refused = sym (ap (λ (p : PassView). p.view.refused) done) in
-      let tally : at.tally ≡ new.tally = sym (ap (λ (p : PassView). p.tally) done) in
-      record {
-        hand = done ∙ (λ i. in_view_with old (record old.view {
-          point = Releasing [];
-          effect = Some e;
-          seen = suc place;
-          log = old.view.log ++ item_at place old.view e ∷ [];
-          refusals = count i;
-          refused = last i;
-        }) (tally i));
-        tried = subst (IsTriedOn old.tally) tally first.tally;
-        place_is = seen;
-        small = small;
-      }
-
-  pub written_refusals : (r : Refusals) → AreRefusals r at.view → AreRefusals r new.view
-  written_refusals r are = refusals_kept r at.view new.view (sym (ap (λ (p : PassView). p.view.refusals) done)) (sym (ap (λ (p : PassView). p.view.refused) done)) are
-
 -- ---- the whole move
 
 module _ (F : Fixed) (c : Command) (held : Held) (words : List ℕ) (q : Point) (e : Effect) (place : ℕ) (h0 h1 h2 h3 h4 : PassView)
@@ -170,11 +132,6 @@ module _ (F : Fixed) (c : Command) (held : Held) (words : List ℕ) (q : Point) 
         come = ap (λ (p : PassView). is_committed (stage_of p.view.point)) at_written;
         alone = subst HoldsLeavesAlone (sym at_written) (record { busy = refl; leaves = refl; inner = λ G. refl; stores = refl });
       }
-
-      pub leaves_still : held.leaves ≡ leaves_of F.tree (region_in F h1.view.cmd h1.view.own) → held.leaves ≡ leaf_word F h4.view.wanted
-      leaves_still are =
-          are ∙ ap (λ (p : PassView). leaves_of F.tree (region_in F p.view.cmd p.view.own)) holds.hand
-          ∙ sym (leaf_word_is F (region_in F c held.own)) ∙ sym (ap (λ (p : PassView). leaf_word F p.view.wanted) at_written)
 
       module _ (h5 : PassView) (gives : h5 ≡ in_view h4 (without_command h4.view)) where
         at_end : h5 ≡ in_view_with h0 (without_command last_view) h4.tally

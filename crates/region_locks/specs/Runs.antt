@@ -1,17 +1,14 @@
 -- A whole move as straight code: what its hand has in view after each part.
-use Rattle.std.specs.Prelude.{◌≡◌, ℕ, suc, ◌+◌, ◌%◌, ◌^◌, ◌<◌, ◌≤◌, List, [], ◌∷◌, ◌++◌, length, Some}
-use Rattle.areanode.specs.Trees.{leaves_of, visited_of}
+use Rattle.std.specs.Prelude.{◌≡◌, ℕ, suc, ◌+◌, ◌^◌, ◌<◌, ◌≤◌, List, [], ◌∷◌, ◌++◌}
 use Rattle.entity_recs.specs.declared.effect.Effect.{Effect}
 use Rattle.entity_recs.specs.declared.effect.Entry.{Entry}
 use Rattle.entity_recs.specs.Commands.{Command}
-use Rattle.core_steps.specs.Nodes.{Fixed, inner_nodes}
-use Rattle.core_steps.specs.Points.{Checking, Resolving, Releasing}
-use Rattle.core_steps.specs.Reads.{View, effect_loaded, region_in}
+use Rattle.core_steps.specs.Nodes.{Fixed}
+use Rattle.core_steps.specs.Points.{Checking, Resolving}
+use Rattle.core_steps.specs.Reads.{View, effect_loaded}
 use Rattle.core_steps.specs.Reads.{without_command}
-use Rattle.core_steps.specs.Steps.{item_at}
 use Rattle.ruled_words.specs.Passes.{PassView}
 use Rattle.ruled_words.specs.Straight.{in_view_with, taking_leaves, at_point, HasMoreInFront, IsTriedOn}
-use Rattle.region_locks.specs.declared.moving.held.Held.{Held}
 use Rattle.region_locks.specs.Pursuits.{item_of}
 
 -- the hand began the command, by its own record as it was loaded, and holds its leaves
@@ -19,15 +16,6 @@ pub record HoldsLeavesOf (F : Fixed) (c : Command) (own : List ℕ) (old new : P
   pub hand : new ≡ in_view_with old (at_point (taking_leaves F c own old.view) Checking new.view) new.tally
   pub begun : new.tally.begun ≡ suc old.tally.begun
   pub listed : HasMoreInFront old.tally.refused new.tally.refused
-
--- these are the own record, the region, the leaves and the inner nodes of the command in this view
-pub record AreHeldFor (F : Fixed) (held : Held) (view : View) : Type 0 where
-  pub own_is : held.own ≡ view.own
-  pub six : length held.own ≡ 6
-  pub region_is : held.region ≡ region_in F view.cmd view.own
-  pub leaves_are : held.leaves ≡ leaves_of F.tree (region_in F view.cmd view.own)
-  pub inner_are : held.inner ≡ visited_of F.tree.depth held.leaves % 2 ^ inner_nodes F
-  pub wanted_is : held.wanted.items ≡ view.wanted
 
 -- the view after all was read, as this one has it
 abbrev pub all_read : View → View → View
@@ -45,24 +33,6 @@ pub record HasReadAll (F : Fixed) (e : Effect) (old new : PassView) : Type 0 whe
   pub hand : new ≡ in_view_with old (all_read old.view new.view) new.tally
   pub tried : IsTriedOn old.tally new.tally
   pub effect : e ≡ effect_loaded F new.view
-
--- the view after the command is committed with this effect at this place and all is written
-abbrev pub all_written : Effect → ℕ → View → View → View
-all_written e place view new = record view {
-  point = Releasing [];
-  effect = Some e;
-  seen = suc place;
-  log = view.log ++ item_at place view e ∷ [];
-  refusals = new.refusals;
-  refused = new.refused;
-}
-
--- the hand has committed and written the effect
-pub record HasWritten (e : Effect) (place : ℕ) (old new : PassView) : Type 0 where
-  pub hand : new ≡ in_view_with old (all_written e place old.view new.view) new.tally
-  pub tried : IsTriedOn old.tally new.tally
-  pub place_is : old.view.seen ≤ place
-  pub small : place + 1 < 2 ^ 64
 
 -- the view after the command is done with this entry, as this one has it
 abbrev pub done_with : Command → Entry → View → View → View

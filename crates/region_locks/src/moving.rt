@@ -2,6 +2,5 @@
 
 mod gated;
 mod go_on;
-pub(crate) mod held;
 mod run;
 mod try_run;

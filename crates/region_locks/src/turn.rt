@@ -176,7 +176,6 @@ impl<'a, A: Action> NodeTable<'a, A> {
             return Some(Turn::Resolve);
         };
         let rules = self.rules();
-        rules.is_lawful();
         let old = rules.home(&pass.mirror.before());
         let nodes = rules.inner_of_two(old, rules.home(&effect.me));
         match nodes.as_slice() {

@@ -1,5 +1,5 @@
 -- A plain hand takes the write nodes of its effect, and commits.
-use Rattle.std.proofs.Common.{◌≡◌, ℕ, suc, ◌+◌, ◌*◌, Bool, true, false, if◌then◌else◌, ◌<◌, ◌≤◌, List, [], ◌∷◌, length, slice_index_or, take, drop, refl, sym, ap, ◌∙◌, subst, Option, Some, None, arith}
+use Rattle.std.proofs.Common.{◌≡◌, ℕ, suc, ◌+◌, ◌*◌, ◌^◌, Bool, true, false, if◌then◌else◌, ◌<◌, ◌≤◌, List, [], ◌∷◌, ◌++◌, length, slice_index_or, take, drop, refl, sym, ap, ◌∙◌, subst, Option, Some, None, arith}
 use Rattle.std.specs.Prelude.{◌==◌}
 use Rattle.std.proofs.lemmas.Bool.{eqb-true, or_left, or_right, eq-eqb}
 use Rattle.std.proofs.lemmas.List.{take_more, take_all, drop_more, drop_all}
@@ -11,7 +11,7 @@ use Rattle.core_steps.specs.Points.{Point, Resolving, Claiming, Storing, Releasi
 use Rattle.core_steps.specs.Points.{is_without_effect, stores_of}
 use Rattle.core_steps.specs.Reads.{View, record_read, region_in}
 use Rattle.core_steps.specs.Held.{leaf_word, held_word}
-use Rattle.core_steps.specs.Steps.{first, rest_of, point_after_take, view_after_take, view_after_claim, view_after_refusal, view_after_commit, storing}
+use Rattle.core_steps.specs.Steps.{first, rest_of, point_after_take, view_after_take, view_after_claim, view_after_refusal, view_after_commit, storing, item_at}
 use Rattle.core_steps.specs.Machine.{Next, TakeNode, ClaimNode, CommitMove, resolving, committing, kind_of}
 use Rattle.core_steps.specs.declared.step.StepKind.TheVariants.{Commit}
 use Rattle.core_steps.specs.Stands.{IsAt, IsClaimingAfter}
@@ -24,9 +24,9 @@ use Rattle.core_seats.specs.declared.refusals.Refusals.{Refusals}
 use Rattle.core_seats.specs.Refusals.{AreRefusals}
 use Rattle.ruled_words.specs.Sights.{Tally, tally_after}
 use Rattle.ruled_words.specs.Passes.{PassView, next_of_pass, pass_after, word_after, IsPassOf}
-use Rattle.ruled_words.specs.Hands.{IsPlain, pass_keeping, still_keeping}
+use Rattle.ruled_words.specs.Hands.{IsPlain, IsHandOf, pass_keeping, still_keeping}
 use Rattle.ruled_words.specs.Straight.{in_view, in_view_with, IsTriedOn}
-use Rattle.ruled_words.specs.Writing.{as_tried, HasTried, nodes_written, nodes_held, claims_left, claimed_point, claimed_effect, view_with_claims, IsClaimed, view_after_stores}
+use Rattle.ruled_words.specs.Writing.{as_tried, HasTried, nodes_written, nodes_held, claims_left, claimed_point, claimed_effect, view_with_claims, IsClaimed, HasWritten, view_after_stores}
 use Rattle.ruled_words.proofs.Owns.{no_effect}
 use Rattle.ruled_words.proofs.LoadedWords.{plain_is, plain_after, plain_next}
 use Rattle.ruled_words.proofs.PlainHands.{keeping_next, left_next, after_next_is}
@@ -93,7 +93,7 @@ has_tried_on p q r view next blind one two = record {
 
 -- the hand that has come to this view so is the table's
 pub record Tries (F : Fixed) (passes : ℕ) (table : TableId) (start : PassView) (view : View) (now : PassView) : Type 0 where
-  pub own : IsPassOf F passes table now
+  pub own : IsHandOf F passes table now
   pub tried : HasTried start view now
 
 module _ (F : Fixed) (passes : ℕ) (table : TableId) (start : PassView) (view : View) (now : PassView) (is : Tries F passes table start view now) where
@@ -104,7 +104,7 @@ module _ (F : Fixed) (passes : ℕ) (table : TableId) (start : PassView) (view :
   pub holds_still : (P : View → Type 0) → P (as_tried view now.view) → P now.view
   holds_still P there = subst P (sym view_tried) there
 
-  pub tries_on : (new : PassView) (next : View → View) → ((v t u : View) → as_tried (next (as_tried v t)) u ≡ as_tried (next v) u) → IsPassOf F passes table new → HasTried now (next now.view) new
+  pub tries_on : (new : PassView) (next : View → View) → ((v t u : View) → as_tried (next (as_tried v t)) u ≡ as_tried (next v) u) → IsHandOf F passes table new → HasTried now (next now.view) new
       → Tries F passes table start (next view) new
   tries_on new next blind own tried = record { own = own; tried = has_tried_on start now new view next blind is.tried tried }
 
@@ -234,8 +234,8 @@ tried_where {b} p one two q served is = subst (λ (free : Bool). HasTried p (if 
 pub tried_not : {b : Bool} (p : PassView) (one two : View) (q : PassView) → b ≡ false → HasTried p (if b then one else two) q → HasTried p two q
 tried_not {b} p one two q refused is = subst (λ (free : Bool). HasTried p (if free then one else two) q) refused is
 
-pub tries_none : (F : Fixed) (passes : ℕ) (table : TableId) (p : PassView) → IsPassOf F passes table p → IsPlain p → Tries F passes table p p.view p
-tries_none F passes table p own plain = record { own = own; tried = tried_none p plain }
+pub tries_none : (F : Fixed) (passes : ℕ) (table : TableId) (p : PassView) → IsHandOf F passes table p → Tries F passes table p p.view p
+tries_none F passes table p own = record { own = own; tried = tried_none p own.plain }
 
 -- ---- all write nodes, one after another
 
@@ -256,7 +256,7 @@ module _ (F : Fixed) (passes : ℕ) (table : TableId) (start : PassView) (e : Ef
   begun_with (node ∷ nodes) some = refl
 
   -- where the first is taken
-  pub claims_begun : (nodes : List ℕ) (now : PassView) → (length nodes == 0) ≡ false → nodes ≡ nodes_written F start.view e → IsPassOf F passes table now
+  pub claims_begun : (nodes : List ℕ) (now : PassView) → (length nodes == 0) ≡ false → nodes ≡ nodes_written F start.view e → IsHandOf F passes table now
       → HasTried start (view_after_claim F e (slice_index_or nodes 0 0) start.view) now → Tries F passes table start (claiming_view start.view e (take 1 nodes) (drop 1 nodes)) now
   claims_begun nodes now some are own tried = record {
     own = own;
@@ -271,7 +271,7 @@ module _ (F : Fixed) (passes : ℕ) (table : TableId) (start : PassView) (e : Ef
     pub claim_comes : now.view.point ≡ Claiming (nodes_held now.view.point) (slice_index_or nodes i 0 ∷ claims_left now.view.point)
     claim_comes = next_claim now.view.point (take i nodes) (drop (i + 1) nodes) (slice_index_or nodes i 0) (ap (λ (q : PassView). q.view.point) claims_there.tried.hand)
 
-    pub claim_taken : (new : PassView) → IsPassOf F passes table new → HasTried now (view_after_take (slice_index_or nodes i 0) now.view) new
+    pub claim_taken : (new : PassView) → IsHandOf F passes table new → HasTried now (view_after_take (slice_index_or nodes i 0) now.view) new
         → Tries F passes table start (claiming_view start.view e (take (i + 1) nodes) (drop (i + 1) nodes)) new
     claim_taken new own tried =
         subst (λ (ns : List ℕ). Tries F passes table start (claiming_view start.view e ns (drop (i + 1) nodes)) new) (sym (take_more nodes i 0 below))
@@ -290,12 +290,12 @@ module _ (F : Fixed) (passes : ℕ) (table : TableId) (start : PassView) (e : Ef
       (subst (λ (ns : List ℕ). HasTried start (claiming_view start.view e ns (drop i nodes)) now) (take_all i nodes over) is.tried)))
 
 -- where there is no write node the hand stays
-pub claims_none : (F : Fixed) (passes : ℕ) (table : TableId) (p : PassView) (e : Effect) → IsPassOf F passes table p → IsPlain p → p.view.point ≡ Resolving → nodes_written F p.view e ≡ [] → HasTried p (view_with_claims F e p.view) p
-claims_none F passes table p e own plain at none =
-    let without : p.view.effect ≡ None = own.sound_sight.sound.unread.no_effect (ap (λ (q : Point). is_without_effect (stage_of q)) at) in
+pub claims_none : (F : Fixed) (passes : ℕ) (table : TableId) (p : PassView) (e : Effect) → IsHandOf F passes table p → p.view.point ≡ Resolving → nodes_written F p.view e ≡ [] → HasTried p (view_with_claims F e p.view) p
+claims_none F passes table p e own at none =
+    let without : p.view.effect ≡ None = own.pass.sound_sight.sound.unread.no_effect (ap (λ (q : Point). is_without_effect (stage_of q)) at) in
     subst (λ (v : View). HasTried p v p)
     ((λ i. record p.view { effect = without i; point = at i }) ∙ ap (λ (ns : List ℕ). record p.view { effect = claimed_effect e ns; point = claimed_point ns }) (sym none))
-    (tried_none p plain)
+    (tried_none p own.plain)
 
 -- ---- which way a commit goes
 
@@ -323,7 +323,7 @@ claimed_effect_is (node ∷ nodes) e o some is = is
 
 -- ---- the effect is written
 
-module _ (F : Fixed) (passes : ℕ) (table : TableId) (start : PassView) (e : Effect) (nodes : List ℕ) (one : PassView) (own_one : IsPassOf F passes table one) (tried : HasTried start (view_with_claims F e start.view) one) where
+module _ (F : Fixed) (passes : ℕ) (table : TableId) (start : PassView) (e : Effect) (nodes : List ℕ) (one : PassView) (own_one : IsHandOf F passes table one) (tried : HasTried start (view_with_claims F e start.view) one) where
   -- the hand that holds its write nodes is where it commits
   pub is_claimed : IsClaimed F e one.view
   is_claimed = holds_still F passes table start (view_with_claims F e start.view) one (record { own = own_one; tried = tried }) (IsClaimed F e) (record { at = refl; effect = refl })
@@ -361,3 +361,35 @@ module _ (F : Fixed) (passes : ℕ) (table : TableId) (start : PassView) (e : Ef
 
       pub refusals_written : (r : Refusals) → AreRefusals r one.view → AreRefusals r three.view
       refusals_written r are = subst (λ (q : PassView). AreRefusals r q.view) (sym all_written) (record { count = are.count; last = are.last })
+
+-- ---- the write nodes are given back
+
+module _ (F : Fixed) (e : Effect) (place : ℕ) (nodes : List ℕ) (old at new : PassView) (first : HasTried old (view_after_stores F place e nodes old.view) at)
+    (second : new ≡ in_view at (record at.view { point = Releasing [] })) where
+  released : new ≡ in_view_with old (record (as_tried (view_after_stores F place e nodes old.view) at.view) { point = Releasing [] }) at.tally
+  released = second ∙ ap (λ (p : PassView). in_view p (record p.view { point = Releasing [] })) first.hand
+
+  pub written_all : old.view.seen ≤ place → place + 1 < 2 ^ 64 → HasWritten e place old new
+  written_all seen small =
+      let count : at.view.refusals ≡ new.view.refusals = sym (ap (λ (p : PassView). p.view.refusals) released) in
+      let last : at.view.refused ≡ new.view.refused = sym (ap (λ (p : PassView). p.view.refused) released) in
+      let tally : at.tally ≡ new.tally = sym (ap (λ (p : PassView). p.tally) released) in
+      record {
+        hand = released ∙ (λ i. in_view_with old (record old.view {
+          point = Releasing [];
+          effect = Some e;
+          seen = suc place;
+          log = old.view.log ++ item_at place old.view e ∷ [];
+          refusals = count i;
+          refused = last i;
+        }) (tally i));
+        tried = subst (IsTriedOn old.tally) tally first.tally;
+        place_is = seen;
+        small = small;
+      }
+
+  pub written_refusals : (r : Refusals) → AreRefusals r at.view → AreRefusals r new.view
+  written_refusals r are = record {
+    count = are.count ∙ sym (ap (λ (p : PassView). p.view.refusals) released);
+    last = are.last ∙ sym (ap (λ (p : PassView). p.view.refused) released);
+  }

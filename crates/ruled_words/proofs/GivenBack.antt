@@ -3,22 +3,20 @@ use Rattle.std.proofs.Common.{◌≡◌, ◌⊎◌, ℕ, ◌+◌, ◌^◌, ◌<�
 use Rattle.std.specs.Prelude.{◌==◌, ◌&&◌, not}
 use Rattle.std.proofs.lemmas.List.{drop_more, drop_all}
 use Rattle.atomic_table.specs.Seated.{TableId}
-use Rattle.arena_geo.specs.Bounds.{Bounds}
 use Rattle.areanode.specs.Words.{has_bit}
 use Rattle.areanode.specs.Trees.{IsTreeDepth, leaf_node, leaves_of}
 use Rattle.core_steps.specs.Nodes.{Fixed, leaf_nodes}
 use Rattle.core_steps.specs.Points.{Point, Releasing, is_whole, stage_of}
 use Rattle.core_steps.specs.Reads.{View, region_in, without_command}
-use Rattle.core_steps.specs.Held.{leaf_word}
 use Rattle.core_steps.specs.Steps.{first, rest_of, returning, view_after_give}
 use Rattle.core_steps.specs.Machine.{GiveNode, giving}
 use Rattle.core_seats.specs.Nexts.{the_next}
 use Rattle.core_seats.specs.Ready.{is_resolving}
 use Rattle.ruled_words.specs.Passes.{PassView, next_of_pass, node_given_next, pass_after, IsPassOf}
-use Rattle.ruled_words.specs.Hands.{IsPlain}
+use Rattle.ruled_words.specs.Hands.{IsPlain, IsHandOf}
 use Rattle.ruled_words.specs.Straight.{in_view}
 use Rattle.ruled_words.proofs.BitWalks.{bits_in, bits_none, lowest_first}
-use Rattle.ruled_words.proofs.LeafWords.{leaf_word_is, leaves_small, leaves_few}
+use Rattle.ruled_words.proofs.LeafWords.{leaves_few}
 use Rattle.ruled_words.proofs.LoadedWords.{none_kept, plain_is, plain_after, plain_next}
 use Rattle.ruled_words.proofs.PlainHands.{after_next_is}
 
@@ -29,12 +27,12 @@ releasing_view view nodes = record view { point = Releasing nodes }
 
 -- these write nodes are left to be given back
 pub record HasReleased (F : Fixed) (passes : ℕ) (table : TableId) (start now : PassView) (left : List ℕ) : Type 0 where
-  pub own : IsPassOf F passes table now
+  pub own : IsHandOf F passes table now
   pub now_is : now ≡ in_view start (releasing_view start.view left)
 
 module _ (F : Fixed) (passes : ℕ) (table : TableId) (start : PassView) (nodes : List ℕ) where
-  pub released_none : IsPassOf F passes table start → IsPlain start → start.view.point ≡ Releasing nodes → HasReleased F passes table start start nodes
-  released_none own plain at = record { own = own; now_is = plain_is start plain ∙ ap (λ (q : Point). in_view start (record start.view { point = q })) at }
+  pub released_none : IsHandOf F passes table start → start.view.point ≡ Releasing nodes → HasReleased F passes table start start nodes
+  released_none own at = record { own = own; now_is = plain_is start own.plain ∙ ap (λ (q : Point). in_view start (record start.view { point = q })) at }
 
   module _ (now : PassView) (i : ℕ) (below : i < length nodes) (is : HasReleased F passes table start now (drop i nodes)) where
     at_node : now ≡ in_view start (releasing_view start.view (slice_index_or nodes i 0 ∷ drop (i + 1) nodes))
@@ -43,7 +41,7 @@ module _ (F : Fixed) (passes : ℕ) (table : TableId) (start : PassView) (nodes 
     pub release_next : node_given_next (next_of_pass F now) ≡ Some (slice_index_or nodes i 0)
     release_next = ap (λ (q : PassView). node_given_next (next_of_pass F q)) at_node
 
-    pub released_more : (new : PassView) → IsPassOf F passes table new → new ≡ pass_after F (the_next (next_of_pass F now)) 0 now → HasReleased F passes table start new (drop (i + 1) nodes)
+    pub released_more : (new : PassView) → IsHandOf F passes table new → new ≡ pass_after F (the_next (next_of_pass F now)) 0 now → HasReleased F passes table start new (drop (i + 1) nodes)
     released_more new own after = record { own = own; now_is = after ∙ ap (λ (q : PassView). pass_after F (the_next (next_of_pass F q)) 0 q) at_node }
 
   pub released_all : (now : PassView) (i : ℕ) → length nodes ≤ i → HasReleased F passes table start now (drop i nodes) → now ≡ in_view start (releasing_view start.view [])
@@ -57,33 +55,19 @@ leaves_in F word = map (leaf_node F.tree.depth) (bits_in (2 ^ F.tree.depth) word
 
 -- these leaves are left to be given back: all of those wanted where none was
 pub record HasReturned (F : Fixed) (passes : ℕ) (table : TableId) (start now : PassView) (left : List ℕ) : Type 0 where
-  pub own : IsPassOf F passes table now
+  pub own : IsHandOf F passes table now
   pub phase : ((now ≡ start) × (left ≡ start.view.wanted)) ⊎ (now ≡ in_view start (returning start.view left))
 
 module _ (F : Fixed) (passes : ℕ) (table : TableId) (start : PassView) (plain : IsPlain start) (at : start.view.point ≡ Releasing []) where
   -- the leaves are those of the word
-  pub returned_none : (leaves : ℕ) → IsPassOf F passes table start → leaves ≡ leaf_word F start.view.wanted → HasReturned F passes table start start (leaves_in F leaves)
+  pub returned_none : (leaves : ℕ) → IsHandOf F passes table start → leaves ≡ leaves_of F.tree (region_in F start.view.cmd start.view.own) → HasReturned F passes table start start (leaves_in F leaves)
   returned_none leaves own are = record { own = own; phase = inl (refl, wanted) }
     where
-      region : List Bounds
-      region = region_in F start.view.cmd start.view.own
-
-      whole : start.view.wanted ≡ leaf_nodes F region
-      whole = own.sound_sight.sound.whole (ap (λ (q : Point). is_whole (stage_of q)) at)
-
-      word : leaves ≡ leaves_of F.tree region
-      word = are ∙ ap (leaf_word F) whole ∙ leaf_word_is F region
+      whole : start.view.wanted ≡ leaf_nodes F (region_in F start.view.cmd start.view.own)
+      whole = own.pass.sound_sight.sound.whole (ap (λ (q : Point). is_whole (stage_of q)) at)
 
       wanted : leaves_in F leaves ≡ start.view.wanted
-      wanted = ap (leaves_in F) word ∙ sym whole
-
-  -- and the word has a bit for each leaf at most
-  pub returned_small : (leaves : ℕ) → IsPassOf F passes table start → leaves ≡ leaf_word F start.view.wanted → leaves < 2 ^ 2 ^ F.tree.depth
-  returned_small leaves own are =
-      let sound = own.sound_sight.sound in
-      let region = region_in F start.view.cmd start.view.own in
-      let whole = sound.whole (ap (λ (q : Point). is_whole (stage_of q)) at) in
-      leaves_small F region leaves (are ∙ ap (leaf_word F) whole ∙ leaf_word_is F region)
+      wanted = ap (leaves_in F) are ∙ sym whole
 
   module _ (now : PassView) (node : ℕ) (rest : List ℕ) where
     first_given : now ≡ start → node ∷ rest ≡ start.view.wanted → next_of_pass F now ≡ Some (GiveNode node)
@@ -117,7 +101,7 @@ module _ (F : Fixed) (passes : ℕ) (table : TableId) (start : PassView) (plain 
         ∙ (λ i. record (in_view start (returning (returning start.view (node ∷ rest)) rest)) { effect = none_kept (is_resolving (returning (returning start.view (node ∷ rest)) rest).point) None refl i })
         ∙ ap (in_view start) (at_rest rest)
 
-    pub returned_more : HasReturned F passes table start now (node ∷ rest) → (new : PassView) → IsPassOf F passes table new → new ≡ pass_after F (the_next (next_of_pass F now)) 0 now → HasReturned F passes table start new rest
+    pub returned_more : HasReturned F passes table start now (node ∷ rest) → (new : PassView) → IsHandOf F passes table new → new ≡ pass_after F (the_next (next_of_pass F now)) 0 now → HasReturned F passes table start new rest
     returned_more is new own after = record {
       own = own;
       phase = elim is.phase [

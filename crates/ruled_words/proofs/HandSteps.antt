@@ -1,6 +1,5 @@
 -- A step of a pass that is held without the same seat in plain values.
-use Rattle.std.proofs.Common.{◌≡◌, ℕ, suc, ◌+◌, ◌%◌, arith, Bool, true, false, if◌then◌else◌, sym, ap, ◌∙◌, refl, subst, inl, inr, Option, Some, None, is_some}
-use Rattle.std.proofs.lemmas.Bool.{cases_Bool, false≢true}
+use Rattle.std.proofs.Common.{◌≡◌, ℕ, ◌+◌, ◌%◌, arith, Bool, true, false, if◌then◌else◌, sym, ap, ◌∙◌, refl, subst, Option, Some, None, is_some}
 use Rattle.std.proofs.lemmas.Option.{same_Some}
 use Rattle.atomic_table.specs.Seated.{TableId}
 use Rattle.entity_recs.specs.declared.effect.Effect.{Effect}
@@ -8,13 +7,12 @@ use Rattle.entity_recs.specs.Commands.{Command}
 use Rattle.core_steps.specs.Cells.{body_index}
 use Rattle.core_steps.specs.Nodes.{Fixed}
 use Rattle.core_steps.specs.Points.{Point, Idle}
-use Rattle.core_steps.specs.Steps.{is_taking, first_yield}
-use Rattle.core_steps.specs.Machine.{Next, Begin, IsPending, index_of, quitting}
-use Rattle.core_seats.specs.Going.{view_found, word_left}
+use Rattle.core_steps.specs.Machine.{Next, Begin, IsPending, index_of}
+use Rattle.core_seats.specs.Going.{word_left}
 use Rattle.core_seats.specs.Nexts.{next_point, the_next}
 use Rattle.core_seats.specs.Ready.{is_resolving}
 use Rattle.ruled_words.specs.Passes.{PassView, effect_kept, next_of_pass, pass_after, word_after, IsPassOf, IsReady, HasGone}
-use Rattle.ruled_words.specs.Hands.{IsPlain, given_to, begun_with}
+use Rattle.ruled_words.specs.Hands.{IsPlain, IsHandOf, given_to, begun_with, plain_pass}
 use Rattle.ruled_words.proofs.Owns.{own_after}
 
 none_kept : (b : Bool) (o : Option Effect) → o ≡ None → None ≡ (if b then o else None)
@@ -52,16 +50,16 @@ no_more n = omega arith
 
 -- ---- a command is begun
 
-module _ (F : Fixed) (passes : ℕ) (table : TableId) (p : PassView) (c : Command) (own : IsPassOf F passes table p) (idle : p.view.point ≡ Idle) (pending : IsPending F p.view c)
-    (serves : c.slot % passes ≡ p.number) where
-  given_own : IsPassOf F passes table (given_to p c)
+module _ (F : Fixed) (passes : ℕ) (table : TableId) (hand : PassView) (c : Command) (own : IsPassOf F passes table (plain_pass hand)) (idle : hand.view.point ≡ Idle)
+    (pending : IsPending F hand.view c) (serves : c.slot % passes ≡ hand.number) where
+  given_own : IsPassOf F passes table (given_to (plain_pass hand) c)
   given_own = record {
     at_table = own.at_table;
     at_setting = own.at_setting;
     lives = own.lives;
     sound_sight = own.sound_sight;
-    pending = λ d e. subst (IsPending F p.view) (same_Some c d e) pending;
-    serves = λ d e. subst (λ (x : Command). x.slot % passes ≡ p.number) (same_Some c d e) serves;
+    pending = λ d e. subst (IsPending F hand.view) (same_Some c d e) pending;
+    serves = λ d e. subst (λ (x : Command). x.slot % passes ≡ hand.number) (same_Some c d e) serves;
     may_quit = own.may_quit;
     has_effect = own.has_effect;
     only_resolving = own.only_resolving;
@@ -69,19 +67,11 @@ module _ (F : Fixed) (passes : ℕ) (table : TableId) (p : PassView) (c : Comman
     counted = own.counted;
   }
 
-  quits_not : p.quits ≡ false
-  quits_not = elim (cases_Bool p.quits) [
-    | inl quits ↦ absurd (false≢true (sym (ap is_taking idle) ∙ own.may_quit quits))
-    | inr not ↦ not
-  ]
-
-  given_next : next_of_pass F (given_to p c) ≡ Some (Begin c)
-  given_next =
-      ap (λ (b : Bool). if b then Some (quitting (first_yield F p.view)) else next_point F p.view (Some c) p.effect p.view.point) quits_not
-      ∙ ap (λ (q : Point). next_point F p.view (Some c) p.effect q) idle
+  given_next : next_of_pass F (given_to (plain_pass hand) c) ≡ Some (Begin c)
+  given_next = ap (λ (q : Point). next_point F hand.view (Some c) None q) idle
 
   -- the first word of the own record is loaded next
-  pub begin_ready : (word : ℕ) → word ≡ body_index c.slot → IsReady F passes table (given_to p c) p word
+  pub begin_ready : (word : ℕ) → word ≡ body_index c.slot → IsReady F passes table (given_to (plain_pass hand) c) hand word
   begin_ready word index = record {
     own = given_own;
     same_table = refl;
@@ -90,29 +80,18 @@ module _ (F : Fixed) (passes : ℕ) (table : TableId) (p : PassView) (c : Comman
     same_view = refl;
     same_tally = refl;
     comes = ap (λ (o : Option Next). is_some o) given_next;
-    index = index ∙ no_more (body_index c.slot) ∙ sym (ap (λ (o : Option Next). index_of p.view (the_next o)) given_next);
+    index = index ∙ no_more (body_index c.slot) ∙ sym (ap (λ (o : Option Next). index_of hand.view (the_next o)) given_next);
   }
 
-  pub begin_left : (found : ℕ) → word_after F (given_to p c) found ≡ found
-  begin_left found = ap (λ (o : Option Next). word_left F p.number p.view (the_next o) found) given_next
+  pub begin_left : (found : ℕ) → word_after F (given_to (plain_pass hand) c) found ≡ found
+  begin_left found = ap (λ (o : Option Next). word_left F hand.number hand.view (the_next o) found) given_next
 
-  module _ (hand : PassView) (found : ℕ) (gone : HasGone F passes (given_to p c) found hand) (plain : IsPlain hand) (plain_old : IsPlain p) where
-    after_begin : pass_after F (the_next (next_of_pass F (given_to p c))) found (given_to p c) ≡ begun_with c found p
-    after_begin =
-        ap (λ (o : Option Next). pass_after F (the_next o) found (given_to p c)) given_next
-        ∙ (λ i. record {
-          table = p.table;
-          setting = p.setting;
-          number = p.number;
-          given = sym plain_old.given i;
-          quits = sym plain_old.quits i;
-          effect = (sym (none_kept false p.effect plain_old.effect) ∙ sym plain_old.effect) i;
-          view = view_found F p.view (Begin c) found;
-          tally = record p.tally { begun = suc p.tally.begun };
-        })
+  module _ (new : PassView) (found : ℕ) (gone : HasGone F passes (given_to (plain_pass hand) c) found new) (plain : IsPlain new) where
+    after_begin : pass_after F (the_next (next_of_pass F (given_to (plain_pass hand) c))) found (given_to (plain_pass hand) c) ≡ begun_with c found (plain_pass hand)
+    after_begin = ap (λ (o : Option Next). pass_after F (the_next o) found (given_to (plain_pass hand) c)) given_next
 
-    pub has_begun : hand ≡ begun_with c found p
-    has_begun = plain_after F passes table (given_to p c) hand found given_own (ap (λ (o : Option Next). is_some o) given_next) gone plain plain_old.effect ∙ after_begin
+    pub has_begun : new ≡ begun_with c found (plain_pass hand)
+    has_begun = plain_after F passes table (given_to (plain_pass hand) c) new found given_own (ap (λ (o : Option Next). is_some o) given_next) gone plain refl ∙ after_begin
 
-    pub begun_own : IsPassOf F passes table hand
-    begun_own = plain_own F passes table (given_to p c) hand found given_own (ap (λ (o : Option Next). is_some o) given_next) gone plain plain_old.effect
+    pub begun_own : IsHandOf F passes table new
+    begun_own = record { pass = plain_own F passes table (given_to (plain_pass hand) c) new found given_own (ap (λ (o : Option Next). is_some o) given_next) gone plain refl; plain = plain }

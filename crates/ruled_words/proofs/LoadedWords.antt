@@ -13,7 +13,7 @@ use Rattle.core_steps.specs.Machine.{Next, LoadOwn, index_of}
 use Rattle.core_seats.specs.Going.{view_found, word_left}
 use Rattle.core_seats.specs.Nexts.{next_point, the_next}
 use Rattle.core_seats.specs.Ready.{is_resolving}
-use Rattle.ruled_words.specs.Hands.{IsPlain, begun_with}
+use Rattle.ruled_words.specs.Hands.{IsPlain, begun_with, plain_pass}
 use Rattle.ruled_words.specs.Loads.{after_loads, record_loaded_next}
 use Rattle.ruled_words.specs.Passes.{PassView, effect_kept, next_of_pass, pass_after, word_after}
 use Rattle.ruled_words.specs.Sights.{Tally, tally_after}
@@ -79,8 +79,8 @@ module _ (F : Fixed) (p : PassView) (c : Command) where
       ∙ kept_in_view p (owned F (record p.view { cmd = c; own = words ++ word ∷ []; point = Owning })) begun_once
 
   -- the first word is loaded
-  pub own_begun : (word : ℕ) → IsPlain p → begun_with c word p ≡ own_at (word ∷ [])
-  own_begun word plain = ap (λ (q : PassView). begun_with c word q) (plain_is p plain)
+  pub own_begun : (word : ℕ) → begun_with c word (plain_pass p) ≡ own_at (word ∷ [])
+  own_begun word = refl
 
   -- all six are loaded
   pub own_whole : (words : List ℕ) → length words ≡ 6 → own_at words ≡ in_view_with p (taking_leaves F c words p.view) begun_once

@@ -15,7 +15,7 @@ use Rattle.core_seats.specs.Going.{view_found, word_stored}
 use Rattle.core_seats.specs.Nexts.{the_next}
 use Rattle.atomic_table.specs.Seated.{TableId}
 use Rattle.ruled_words.specs.Passes.{PassView, IsPassOf, next_of_pass, pass_after, word_after}
-use Rattle.ruled_words.specs.Hands.{IsPlain}
+use Rattle.ruled_words.specs.Hands.{IsPlain, IsHandOf}
 use Rattle.ruled_words.specs.Straight.{in_view}
 use Rattle.ruled_words.specs.Writing.{nodes_held, owed_beyond, state_store}
 use Rattle.ruled_words.proofs.LoadedWords.{plain_is, plain_after, plain_next}
@@ -81,14 +81,14 @@ module _ (nodes : List ℕ) (front rest : List Store) (n : ℕ) (many : n ≡ le
 
 -- from the hand at the start some stores were made, and these are owed
 pub record HasStored (F : Fixed) (passes : ℕ) (table : TableId) (start now : PassView) (stores : List Store) : Type 0 where
-  pub own : IsPassOf F passes table now
+  pub own : IsHandOf F passes table now
   pub now_is : now ≡ in_view start (storing_view start.view (nodes_held start.view.point) stores)
 
 module _ (F : Fixed) (passes : ℕ) (table : TableId) (start : PassView) where
-  pub stored_none : (stores : List Store) → IsPassOf F passes table start → IsPlain start → start.view.point ≡ storing (nodes_held start.view.point) stores → HasStored F passes table start start stores
-  stored_none stores own plain at = record {
+  pub stored_none : (stores : List Store) → IsHandOf F passes table start → start.view.point ≡ storing (nodes_held start.view.point) stores → HasStored F passes table start start stores
+  stored_none stores own at = record {
     own = own;
-    now_is = plain_is start plain ∙ ap (λ (q : Point). in_view start (record start.view { point = q })) at;
+    now_is = plain_is start own.plain ∙ ap (λ (q : Point). in_view start (record start.view { point = q })) at;
   }
 
   module _ (now : PassView) (front rest : List Store) (n : ℕ) (many : n ≡ length front) (is : HasStored F passes table start now (front ++ rest)) where
@@ -100,7 +100,7 @@ module _ (F : Fixed) (passes : ℕ) (table : TableId) (start : PassView) where
     stored_next = stores_next (nodes_held start.view.point) front rest n many now.view.point stored_at
 
     -- they were made
-    pub stored_more : (new : PassView) → IsPassOf F passes table new → new ≡ in_view now (storing_view now.view (nodes_held now.view.point) (owed_beyond n now.view.point)) → HasStored F passes table start new rest
+    pub stored_more : (new : PassView) → IsHandOf F passes table new → new ≡ in_view now (storing_view now.view (nodes_held now.view.point) (owed_beyond n now.view.point)) → HasStored F passes table start new rest
     stored_more new own made = record {
       own = own;
       now_is =
@@ -126,7 +126,7 @@ module _ (F : Fixed) (passes : ℕ) (table : TableId) (start : PassView) (rest :
     pub word_next : k < length words → now.view.point ≡ storing (nodes_held now.view.point) (Put (Body slot k) (slice_index_or words k 0) ∷ owed_beyond 1 now.view.point)
     word_next below = stored_next F passes table start now (Put (Body slot k) (slice_index_or words k 0) ∷ []) words_left 1 refl (word_first below)
 
-    pub word_made : k < length words → (new : PassView) → IsPassOf F passes table new → new ≡ in_view now (storing_view now.view (nodes_held now.view.point) (owed_beyond 1 now.view.point))
+    pub word_made : k < length words → (new : PassView) → IsHandOf F passes table new → new ≡ in_view now (storing_view now.view (nodes_held now.view.point) (owed_beyond 1 now.view.point))
         → HasStored F passes table start new words_left
     word_made below new own made = stored_more F passes table start now (Put (Body slot k) (slice_index_or words k 0) ∷ []) words_left 1 refl (word_first below) new own made
 
@@ -144,7 +144,7 @@ module _ (F : Fixed) (passes : ℕ) (table : TableId) (start : PassView) (rest :
     pub state_next : (d : NewState) → i < length states → now.view.point ≡ storing (nodes_held now.view.point) (state_store (slice_index_or states i d) ∷ owed_beyond 1 now.view.point)
     state_next d below = stored_next F passes table start now (state_store (slice_index_or states i d) ∷ []) states_left 1 refl (state_first d below)
 
-    pub state_made : (d : NewState) → i < length states → (new : PassView) → IsPassOf F passes table new → new ≡ in_view now (storing_view now.view (nodes_held now.view.point) (owed_beyond 1 now.view.point))
+    pub state_made : (d : NewState) → i < length states → (new : PassView) → IsHandOf F passes table new → new ≡ in_view now (storing_view now.view (nodes_held now.view.point) (owed_beyond 1 now.view.point))
         → HasStored F passes table start new states_left
     state_made d below new own made = stored_more F passes table start now (state_store (slice_index_or states i d) ∷ []) states_left 1 refl (state_first d below) new own made
 
@@ -153,7 +153,7 @@ module _ (F : Fixed) (passes : ℕ) (table : TableId) (start : PassView) (rest :
 
 -- ---- all stores of an effect
 
-module _ (F : Fixed) (passes : ℕ) (table : TableId) (start : PassView) (slot old new : ℕ) (e : Effect) (own : IsPassOf F passes table start) (plain : IsPlain start)
+module _ (F : Fixed) (passes : ℕ) (table : TableId) (start : PassView) (slot old new : ℕ) (e : Effect) (own : IsHandOf F passes table start)
     (is_new : new ≡ home F e.me) (at : start.view.point ≡ storing (nodes_held start.view.point) (stores_of F slot old e)) where
   abbrev after_states : List Store
   after_states = Link (home F e.me) ∷ []
@@ -168,12 +168,12 @@ module _ (F : Fixed) (passes : ℕ) (table : TableId) (start : PassView) (slot o
   after_clear = body_stores slot 0 (words_of e.me) ++ after_words
 
   all_left : HasStored F passes table start start (stores_of F slot old e)
-  all_left = stored_none F passes table start (stores_of F slot old e) own plain at
+  all_left = stored_none F passes table start (stores_of F slot old e) own at
 
   pub clear_comes : start.view.point ≡ storing (nodes_held start.view.point) (Clear old ∷ owed_beyond 1 start.view.point)
   clear_comes = stored_next F passes table start start (Clear old ∷ []) after_clear 1 refl all_left
 
-  module _ (one : PassView) (own_one : IsPassOf F passes table one) (made_one : one ≡ in_view start (storing_view start.view (nodes_held start.view.point) (owed_beyond 1 start.view.point)))
+  module _ (one : PassView) (own_one : IsHandOf F passes table one) (made_one : one ≡ in_view start (storing_view start.view (nodes_held start.view.point) (owed_beyond 1 start.view.point)))
       (words : List ℕ) (are : words ≡ words_of e.me) where
     cleared : HasStored F passes table start one (body_stores slot 0 words ++ after_words)
     cleared = subst (λ (ws : List ℕ). HasStored F passes table start one (body_stores slot 0 ws ++ after_words)) (sym are)
@@ -185,7 +185,7 @@ module _ (F : Fixed) (passes : ℕ) (table : TableId) (start : PassView) (slot o
     pub words_come : one.view.point ≡ storing (nodes_held one.view.point) (body_stores slot 0 words ++ owed_beyond 5 one.view.point)
     words_come = stored_next F passes table start one (body_stores slot 0 words) after_words 5 five cleared
 
-    module _ (two : PassView) (own_two : IsPassOf F passes table two) (made_two : two ≡ in_view one (storing_view one.view (nodes_held one.view.point) (owed_beyond 5 one.view.point)))
+    module _ (two : PassView) (own_two : IsHandOf F passes table two) (made_two : two ≡ in_view one (storing_view one.view (nodes_held one.view.point) (owed_beyond 5 one.view.point)))
         (id : ℕ) (is_id : id ≡ slot) where
       stored_words : HasStored F passes table start two (Put (State id) e.me.state ∷ after_state)
       stored_words = subst (λ (n : ℕ). HasStored F passes table start two (Put (State n) e.me.state ∷ after_state)) (sym is_id)
@@ -194,7 +194,7 @@ module _ (F : Fixed) (passes : ℕ) (table : TableId) (start : PassView) (slot o
       pub state_comes : two.view.point ≡ storing (nodes_held two.view.point) (Put (State id) e.me.state ∷ owed_beyond 1 two.view.point)
       state_comes = stored_next F passes table start two (Put (State id) e.me.state ∷ []) after_state 1 refl stored_words
 
-      module _ (three : PassView) (own_three : IsPassOf F passes table three) (made_three : three ≡ in_view two (storing_view two.view (nodes_held two.view.point) (owed_beyond 1 two.view.point)))
+      module _ (three : PassView) (own_three : IsHandOf F passes table three) (made_three : three ≡ in_view two (storing_view two.view (nodes_held two.view.point) (owed_beyond 1 two.view.point)))
           (states : List NewState) (are_states : states ≡ e.states) where
         stored_state : HasStored F passes table start three (map state_store states ++ after_states)
         stored_state = subst (λ (xs : List NewState). HasStored F passes table start three (map state_store xs ++ after_states)) (sym are_states)
@@ -203,7 +203,7 @@ module _ (F : Fixed) (passes : ℕ) (table : TableId) (start : PassView) (slot o
         pub states_come : three.view.point ≡ storing (nodes_held three.view.point) (map state_store states ++ owed_beyond (length states) three.view.point)
         states_come = stored_next F passes table start three (map state_store states) after_states (length states) (sym (length-map states state_store)) stored_state
 
-        module _ (four : PassView) (own_four : IsPassOf F passes table four) (made_four : four ≡ in_view three (storing_view three.view (nodes_held three.view.point) (owed_beyond (length states) three.view.point))) where
+        module _ (four : PassView) (own_four : IsHandOf F passes table four) (made_four : four ≡ in_view three (storing_view three.view (nodes_held three.view.point) (owed_beyond (length states) three.view.point))) where
           stored_states : HasStored F passes table start four (Link new ∷ [])
           stored_states = subst (λ (n : ℕ). HasStored F passes table start four (Link n ∷ [])) (sym is_new)
               (stored_more F passes table start three (map state_store states) after_states (length states) (sym (length-map states state_store)) stored_state four own_four made_four)
@@ -214,6 +214,6 @@ module _ (F : Fixed) (passes : ℕ) (table : TableId) (start : PassView) (slot o
           pub same_slot : slot ≡ start.view.cmd.slot → slot ≡ four.view.cmd.slot
           same_slot is = is ∙ sym (ap (λ (q : PassView). q.view.cmd.slot) stored_states.now_is)
 
-          pub all_stored : (five : PassView) → IsPassOf F passes table five → five ≡ in_view four (storing_view four.view (nodes_held four.view.point) (owed_beyond 1 four.view.point))
+          pub all_stored : (five : PassView) → IsHandOf F passes table five → five ≡ in_view four (storing_view four.view (nodes_held four.view.point) (owed_beyond 1 four.view.point))
               → five ≡ in_view start (record start.view { point = Releasing (nodes_held start.view.point) })
           all_stored five own_five made_five = (stored_more F passes table start four (Link new ∷ []) [] 1 refl stored_states five own_five made_five).now_is

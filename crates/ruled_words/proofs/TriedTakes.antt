@@ -261,17 +261,24 @@ pub record WantsLeaves (F : Fixed) (p : PassView) (leaves : ℕ) : Type 0 where
   pub depth : IsTreeDepth F.tree.depth
   pub small : leaves < 2 ^ 2 ^ F.tree.depth
   pub wanted : p.view.wanted ≡ leaf_list F leaves
+  pub word : leaf_word F p.view.wanted ≡ leaves
   pub some : 0 < length (leaf_list F leaves)
 
-pub wants_leaves : (F : Fixed) (passes : ℕ) (table : TableId) (p : PassView) (leaves : ℕ) → IsPassOf F passes table p → p.view.point ≡ Taking [] p.view.wanted → leaves ≡ leaf_word F p.view.wanted → WantsLeaves F p leaves
-wants_leaves F passes table p leaves own at word =
+pub wants_leaves : (F : Fixed) (passes : ℕ) (table : TableId) (p : PassView) (leaves : ℕ) → IsPassOf F passes table p → p.view.point ≡ Taking [] p.view.wanted → leaves ≡ leaves_of F.tree (region_in F p.view.cmd p.view.own)
+    → WantsLeaves F p leaves
+wants_leaves F passes table p leaves own at is =
     let sound = own.sound_sight.sound in
     let region = region_in F p.view.cmd p.view.own in
     let nodes : p.view.wanted ≡ leaf_nodes F region = sound.whole (ap (λ (q : Point). is_whole (stage_of q)) at) in
-    let is : leaves ≡ leaves_of F.tree region = word ∙ ap (leaf_word F) nodes ∙ leaf_word_is F region in
     let wanted : p.view.wanted ≡ leaf_list F leaves = nodes ∙ ap (leaf_list F) (sym is) in
     let left : IsTaking [] p.view.wanted p.view.wanted = subst (λ (q : Point). IsAt F p.view.cmd p.view.own p.view.wanted p.view.again p.view.lists p.view.others p.view.states p.view.effect q) at sound.at in
-    record { depth = sound.depth; small = leaves_small F region leaves is; wanted = wanted; some = subst (λ (xs : List ℕ). 0 < length xs) wanted left.left }
+    record {
+      depth = sound.depth;
+      small = leaves_small F region leaves is;
+      wanted = wanted;
+      word = ap (leaf_word F) nodes ∙ leaf_word_is F region ∙ sym is;
+      some = subst (λ (xs : List ℕ). 0 < length xs) wanted left.left;
+    }
 
 -- these leaves are left to be taken
 abbrev pub left_until : Fixed → PassView → ℕ → PassView → PassView
@@ -291,11 +298,11 @@ module _ (F : Fixed) (p : PassView) (leaves : ℕ) (plain : IsPlain p) (wants : 
     pub leaf_comes : next_of_pass F now ≡ Some (TakeNode node)
     leaf_comes = ap (λ (q : PassView). next_of_pass F q) at_leaf
 
-    pub leaf_left : (new : ℕ) → new ≡ p.number + NODE_HOLDERS * leaf_word F p.view.wanted + 1 → (found : ℕ) → word_after F now found ≡ (if found == 0 then new else found)
+    pub leaf_left : (new : ℕ) → new ≡ p.number + NODE_HOLDERS * leaves + 1 → (found : ℕ) → word_after F now found ≡ (if found == 0 then new else found)
     leaf_left new marked found =
         let held : held_word F p.number (stage_of (taking (got_at now.view.point ++ node ∷ []) (leaf_list F after))) p.view.wanted node ≡ new =
         ap (λ (n : ℕ). suc (p.number + NODE_HOLDERS * n)) (cond-true (is_leaf F node) (leaf_word F p.view.wanted) (if is_writing (stage_of (taking (got_at now.view.point ++ node ∷ []) (leaf_list F after))) then 1 else 0) (leaf_there F leaf node there))
-        ∙ (let m = marked in omega (arith, m)) in
+        ∙ ap (λ (n : ℕ). suc (p.number + NODE_HOLDERS * n)) wants.word ∙ (let m = marked in omega (arith, m)) in
         ap (λ (q : PassView). word_after F q found) at_leaf ∙ ap (λ (w : ℕ). if found == 0 then w else found) held
 
     pub leaf_taken : (new : PassView) → new ≡ tried_until now (point_after_take node now.view.point) new → new ≡ left_until F p after new

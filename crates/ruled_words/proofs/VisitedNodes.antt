@@ -10,7 +10,7 @@ use Rattle.arena_geo.specs.Bounds.{Bounds}
 use Rattle.areanode.specs.Trees.{leaf_node, leaves_of, visited_of}
 use Rattle.core_steps.specs.Nodes.{Fixed, is_leaf, inner_nodes, plan_of, inner_visited}
 use Rattle.core_steps.specs.Points.{Point, Entering, Entered, Leaving, stage_of}
-use Rattle.core_steps.specs.Reads.{PlayerRead, player_at, region_in}
+use Rattle.core_steps.specs.Reads.{PlayerRead, View, player_at, region_in}
 use Rattle.core_steps.specs.Held.{leaf_word, held_word}
 use Rattle.core_steps.specs.Steps.{loading, visiting, point_after_take, view_after_give}
 use Rattle.core_steps.specs.Machine.{Next, TakeNode, GiveNode}
@@ -21,7 +21,8 @@ use Rattle.core_seats.specs.Nexts.{the_next}
 use Rattle.core_seats.proofs.ThingPlaces.{either_bits}
 use Rattle.ruled_words.specs.Hands.{IsPlain}
 use Rattle.ruled_words.specs.Passes.{PassView, next_of_pass, pass_after, node_given_next, word_after}
-use Rattle.ruled_words.specs.Straight.{in_view, in_view_with, HasKept, nodes_read}
+use Rattle.ruled_words.specs.Straight.{AreHeldFor, in_view, in_view_with, HasKept, nodes_read}
+use Rattle.ruled_words.specs.declared.held.Held.{Held}
 use Rattle.ruled_words.specs.Tries.{tried_until}
 use Rattle.ruled_words.specs.Visits.{plan_left, read_until, under_until, visited_until}
 use Rattle.ruled_words.proofs.BitWalks.{bits_in, bits_none, bits_low}
@@ -203,6 +204,9 @@ inner_list_is F region leaves inner is visited =
     ap (λ (w : ℕ). bits_in (inner_nodes F) (visited_of F.tree.depth w)) (sym is)
     ∙ sym (ap (bits_in (inner_nodes F)) visited ∙ bits_low (inner_nodes F) (visited_of F.tree.depth leaves))
 
+pub inner_of_command : (F : Fixed) (held : Held) (view : View) → AreHeldFor F held view → held.inner ≡ visited_of F.tree.depth (leaves_of F.tree (region_in F view.cmd view.own)) % 2 ^ inner_nodes F
+inner_of_command F held view is = is.inner_are ∙ ap (λ (leaves : ℕ). visited_of F.tree.depth leaves % 2 ^ inner_nodes F) is.leaves_are
+
 -- they are cut from the nodes that are visited
 pub inner_small : (F : Fixed) (visited inner rest : ℕ) → inner ≡ visited % 2 ^ inner_nodes F → rest ≤ inner → rest < 2 ^ inner_nodes F
 inner_small F visited inner rest is few =
@@ -244,9 +248,6 @@ module _ (F : Fixed) (p : PassView) (one : PassView) (outer : one ≡ read_until
       ap (λ (q : PassView). q.view.point) outer
       ∙ sym (visiting_same F one.view p.view (inner_visited F (region_in F p.view.cmd p.view.own)) (ap (λ (q : PassView). q.view.cmd) outer) (ap (λ (q : PassView). q.view.own) outer))
       ∙ sym (ap (λ (q : PassView). visiting F one.view (inner_visited F (region_in F q.view.cmd q.view.own))) outer)
-
-  pub read_leaves_of : leaves_of F.tree (region_in F one.view.cmd one.view.own) ≡ leaves_of F.tree (region_in F p.view.cmd p.view.own)
-  read_leaves_of = ap (λ (q : PassView). leaves_of F.tree (region_in F q.view.cmd q.view.own)) outer
 
   pub read_refusals : (r : Refusals) → AreRefusals r p.view → AreRefusals r one.view
   read_refusals r here = record {

@@ -1,15 +1,18 @@
 -- How a pass is held: its seat at the table, its hand, beside the same seat in plain values.
-use Rattle.std.specs.Prelude.{◌≡◌, ℕ, suc, false, [], Option, Some, None}
+use Rattle.std.specs.Prelude.{◌≡◌, ℕ, suc, false, [], length, Option, Some, None}
 use Rattle.areanode.specs.Trees.{IsTreeDepth}
+use Rattle.atomic_table.specs.Seated.{TableId}
 use Rattle.atomic_table.specs.declared.shared.Seat as places
+use Rattle.entity_recs.specs.Actions.{Meaning}
 use Rattle.entity_recs.specs.declared.effect.Effect.{Effect}
 use Rattle.core_seats.specs.declared.seat.Seat.{Seat}
 use Rattle.entity_recs.specs.Commands.{Command}
+use Rattle.core_steps.specs.Nodes.{Fixed}
 use Rattle.core_steps.specs.Steps.{view_after_begin}
 use Rattle.core_seats.specs.Seats.{view_of, given_of}
 use Rattle.ruled_words.specs.Sights.{SightView}
 use Rattle.ruled_words.specs.declared.setting.Setting.{Setting}
-use Rattle.ruled_words.specs.Passes.{PassView, effect_kept}
+use Rattle.ruled_words.specs.Passes.{PassView, TableView, IsPassOf, effect_kept, fixed_in}
 
 -- the pass of this place at the table, of which its passes know this, with this number, that was given nothing, isn't to
 -- give up and keeps no effect
@@ -36,6 +39,19 @@ pub record IsPlain (p : PassView) : Type 0 where
   pub given : p.given ≡ None
   pub quits : p.quits ≡ false
   pub effect : p.effect ≡ None
+
+-- the hand is that of a pass that belongs to the table, and is plain
+pub record IsHandOf (F : Fixed) (passes : ℕ) (table : TableId) (hand : PassView) : Type 0 where
+  pub pass : IsPassOf F passes table hand
+  pub plain : IsPlain hand
+
+-- the same of this table
+abbrev pub IsOwnHand : {A : Type 0} → (A → Meaning) → TableView A → PassView → Type 0
+IsOwnHand meaning t hand = IsHandOf (fixed_in meaning t) (length t.rooms) t.table hand
+
+-- the pass of this hand, with nothing given
+abbrev pub plain_pass : PassView → PassView
+plain_pass hand = record hand { given = None; quits = false; effect = None }
 
 -- the pass with this command, which isn't begun
 abbrev pub given_to : PassView → Command → PassView

@@ -58,3 +58,9 @@ pub record IsReached (F : Fixed) (view : View) (node : ℕ) : Type 0 where
 -- the same of the node that a step takes, if it takes one
 abbrev pub AreReached : Fixed → View → Next → Type 0
 AreReached F view next = (node : ℕ) → node_taken next ≡ Some node → IsReached F view node
+
+-- what a step finds of the node that it takes, if it takes one: where the word isn't 0 another seat holds the node, and
+-- the node is one that the seat's command reaches
+pub record IsFoundNode (F : Fixed) (passes number : ℕ) (view : View) (next : Next) (found : ℕ) : Type 0 where
+  pub held : IsFoundHeld F passes number next found
+  pub reached : AreReached F view next

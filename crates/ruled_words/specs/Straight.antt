@@ -1,13 +1,15 @@
 -- A move as straight code: what its hand has in view between its steps, and what is kept of it in plain values.
-use Rattle.std.specs.Prelude.{◌≡◌, ℕ, ◌<◌, Bool, true, false, if◌then◌else◌, List, [], ◌++◌, Some, None, get_or}
+use Rattle.std.specs.Prelude.{◌≡◌, ℕ, ◌%◌, ◌^◌, ◌<◌, Bool, true, false, if◌then◌else◌, List, [], ◌++◌, length, Some, None, get_or}
 use Rattle.areanode.specs.Words.{has_bit}
+use Rattle.areanode.specs.Trees.{leaves_of, visited_of}
 use Rattle.entity_recs.specs.Commands.{Command}
-use Rattle.core_steps.specs.Nodes.{Fixed, leaf_nodes}
+use Rattle.core_steps.specs.Nodes.{Fixed, inner_nodes, leaf_nodes}
 use Rattle.core_steps.specs.Points.{Point, Taking}
 use Rattle.core_steps.specs.Reads.{View, PlayerRead, player_at, region_in, things_in}
 use Rattle.core_steps.specs.Steps.{sensing}
 use Rattle.ruled_words.specs.Sights.{HeldWord, Tally}
 use Rattle.ruled_words.specs.Passes.{PassView}
+use Rattle.ruled_words.specs.declared.held.Held.{Held}
 
 -- the pass with this view, to which nothing was given, that isn't to give up and keeps no effect
 abbrev pub in_view : PassView → View → PassView
@@ -59,6 +61,21 @@ nodes_read F view new = record view {
   refusals = new.refusals;
   refused = new.refused;
 }
+
+-- these are the slot, the own record, the region, the leaves and the inner nodes of this command, by these words of the
+-- own record, and these are its wanted nodes
+pub record AreOfCommand (F : Fixed) (held : Held) (c : Command) (own wanted : List ℕ) : Type 0 where
+  pub slot_is : held.slot ≡ c.slot
+  pub own_is : held.own ≡ own
+  pub six : length held.own ≡ 6
+  pub region_is : held.region ≡ region_in F c own
+  pub leaves_are : held.leaves ≡ leaves_of F.tree (region_in F c own)
+  pub inner_are : held.inner ≡ visited_of F.tree.depth held.leaves % 2 ^ inner_nodes F
+  pub wanted_is : held.wanted.items ≡ wanted
+
+-- the same of the command in this view
+abbrev pub AreHeldFor : Fixed → Held → View → Type 0
+AreHeldFor F held view = AreOfCommand F held view.cmd view.own view.wanted
 
 -- the nodes that are taken, and those that come after the next one
 abbrev pub got_at : Point → List ℕ

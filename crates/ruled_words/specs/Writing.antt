@@ -1,5 +1,5 @@
 -- A move's write nodes, its commit, its stores and what is given back, as its hand has them in view.
-use Rattle.std.specs.Prelude.{◌≡◌, ℕ, suc, List, [], ◌∷◌, ◌++◌, drop, Option, Some, None}
+use Rattle.std.specs.Prelude.{◌≡◌, ℕ, suc, ◌+◌, ◌^◌, ◌<◌, ◌≤◌, List, [], ◌∷◌, ◌++◌, drop, Option, Some, None}
 use Rattle.entity_recs.specs.declared.effect.Effect.{Effect}
 use Rattle.entity_recs.specs.declared.effect.NewState.{NewState}
 use Rattle.core_steps.specs.Cells.{State}
@@ -81,3 +81,23 @@ owed_beyond n point = drop n (stores_owed point)
 -- the store of a new state
 abbrev pub state_store : NewState → Store
 state_store s = Put (State s.id) s.state
+
+-- ---- all of it
+
+-- the view after the command is committed with this effect at this place and all is written
+abbrev pub all_written : Effect → ℕ → View → View → View
+all_written e place view new = record view {
+  point = Releasing [];
+  effect = Some e;
+  seen = suc place;
+  log = view.log ++ item_at place view e ∷ [];
+  refusals = new.refusals;
+  refused = new.refused;
+}
+
+-- the hand has committed and written the effect
+pub record HasWritten (e : Effect) (place : ℕ) (old new : PassView) : Type 0 where
+  pub hand : new ≡ in_view_with old (all_written e place old.view new.view) new.tally
+  pub tried : IsTriedOn old.tally new.tally
+  pub place_is : old.view.seen ≤ place
+  pub small : place + 1 < 2 ^ 64

@@ -8,7 +8,7 @@ ghost use Rattle.ruled_words.specs.Sights.{with_one_made, sight_made, with_one_e
 ghost use Rattle.ruled_words.specs.Plays.{IsSoundSight};
 ghost use Rattle.ruled_words.specs.Passes.{sight_of, next_of_pass, word_after, IsReady, HasGone};
 ghost use Rattle.ruled_words.specs.WordSteps.{word_by, MayBe};
-ghost use Rattle.ruled_words.specs.Hands.{IsPlain, given_to, pass_keeping, pass_view};
+ghost use Rattle.ruled_words.specs.Hands.{IsPlain, given_to, pass_keeping, pass_view, plain_pass};
 ghost use Rattle.entity_recs.specs.Commands.{command_of};
 
 use crate::rule::key::{TableSeat, Words};
@@ -46,14 +46,6 @@ impl Hand {
         ensures { (result.table_id ≡ self.table) × (result.me ≡ (sight_of self, [])) }
     {
         self.place
-    }
-
-    /// Nothing was given to the pass of a hand, it isn't to give up, and it keeps no effect.
-    pub fn is_plain(&self)
-        ensures { IsPlain self.now }
-    {
-        // To read a part of the hand is to know what its view is.
-        let _number = self.number;
     }
 
     /// The pass's number.
@@ -128,12 +120,12 @@ impl Hand {
     /// The hand makes its first step for a command, a load.
     pub(crate) fn begin_on<A: Action>(&mut self, words: &Words<A>, cmd: &Cmd, word: usize) -> u64
         requires ready { IsReady (fixed_by A.meaning words.now.key.action.value words.now.key.world.value)
-            (length words.now.key.rooms.items) words.now.table_id (given_to self.old (command_of cmd.now)) self.old word }
+            (length words.now.key.rooms.items) words.now.table_id (given_to (plain_pass self.old) (command_of cmd.now)) self.old word }
         requires wide { words.now.table_id.words ≡ TABLE_WORDS }
         requires left { (found : ℕ) → word_after (fixed_by A.meaning words.now.key.action.value
-            words.now.key.world.value) (given_to self.old (command_of cmd.now)) found ≡ found }
+            words.now.key.world.value) (given_to (plain_pass self.old) (command_of cmd.now)) found ≡ found }
         ensures gone { HasGone (fixed_by A.meaning words.now.key.action.value words.now.key.world.value)
-            (length words.now.key.rooms.items) (given_to self.old (command_of cmd.now)) result self.new }
+            (length words.now.key.rooms.items) (given_to (plain_pass self.old) (command_of cmd.now)) result self.new }
         ensures plain { IsPlain self.old × IsPlain self.new }
     {
         step_as::<A, Brand, Cmd>(words, cmd, &mut self.place, word, WordStep::Load)

@@ -2,6 +2,7 @@
 #![tactic(auto)]
 
 pub use hand::Hand;
+pub use held::Held;
 pub use reading::index_of_word;
 pub use rule::laws::{
     closed_table_is_its_run, ended_seats_keep_the_rule, held_words_name_their_holder,
@@ -14,6 +15,7 @@ pub use word_step::WordStep;
 
 mod end;
 mod hand;
+mod held;
 mod nodes;
 mod opening;
 mod reading;

@@ -1,15 +1,18 @@
-ghost use Rattle.std.specs.Prelude.{◌≡◌, ◌+◌, ◌^◌, ◌<◌, ◌≤◌};
-ghost use Rattle.core_steps.specs.Nodes.{home};
+ghost use Rattle.std.specs.Prelude.{◌≡◌};
+ghost use Rattle.entity_recs.specs.Records.{IsRecord};
+ghost use Rattle.core_steps.specs.Nodes.{home, inner_of_two};
 ghost use Rattle.core_steps.specs.Points.{Resolving};
-ghost use Rattle.core_steps.specs.Reads.{effect_loaded, record_read};
-ghost use Rattle.core_steps.specs.Nodes.{inner_of_two};
+ghost use Rattle.core_steps.specs.Reads.{effect_loaded};
 ghost use Rattle.core_seats.specs.Refusals.{AreRefusals};
-ghost use Rattle.ruled_words.specs.Passes.{fixed_in, IsOwn};
-ghost use Rattle.ruled_words.specs.Writing.{HasTried, nodes_written, view_after_stores};
+ghost use Rattle.ruled_words.specs.Hands.{IsOwnHand};
+ghost use Rattle.ruled_words.specs.Passes.{fixed_in};
+ghost use Rattle.ruled_words.specs.Straight.{AreHeldFor};
+ghost use Rattle.ruled_words.specs.Writing.{HasWritten};
 
 use crate::hand::Hand;
+use crate::held::Held;
 use crate::shared_words::SharedWords;
-use core_seats::{LoadedPlayer, NodeQueue, Refusals};
+use core_seats::{LoadedPlayer, NodeQueue, Refusals, read_record};
 use entity_recs::{Action, Effect, Rec};
 use std::sync::Wait;
 
@@ -18,66 +21,52 @@ mod committing;
 mod effect_stores;
 
 impl<'a, A: Action> SharedWords<'a, A> {
-    /// The node at which the player of the command in hand is linked, as it was loaded again, and the one at which it
-    /// will be with the command's effect.
-    pub fn homes(&self, hand: &Hand, before: &Rec, effect: &Effect) -> (u8, u8)
-        requires own { IsOwn A.meaning self.now hand.now }
-        requires at { hand.now.view.point ≡ Resolving }
-        requires before { before.now ≡ record_read hand.now.view.cmd.slot hand.now.view.again }
-        requires effect { effect.now ≡ effect_loaded (fixed_in A.meaning self.now) hand.now.view }
+    /// The node at which a player with this record is linked, and the one at which it will be with the effect.
+    fn homes(&self, before: &Rec, effect: &Effect) -> (u8, u8)
+        requires before { IsRecord before.now }
+        requires after { IsRecord effect.now.me }
         ensures old { result.0 ≡ home (fixed_in A.meaning self.now) before.now }
         ensures new { result.1 ≡ home (fixed_in A.meaning self.now) effect.now.me }
     {
-        // The hand says that both are records.
-        let _ = hand;
-        self.rules.is_lawful();
         (self.rules.home(before), self.rules.home(&effect.me))
     }
 
     /// The write nodes of an effect whose player moves from one node to another: the inner ones of them, rising, without
     /// repeats.
-    pub fn write_nodes(&self, old: u8, new: u8) -> NodeQueue
+    fn write_nodes(&self, old: u8, new: u8) -> NodeQueue
         ensures { result.items ≡ inner_of_two (fixed_in A.meaning self.now) old new }
     {
         self.rules.inner_of_two(old, new)
     }
 
     /// Writes the effect of the command in hand, where all is read, and gives its place: the write nodes are taken, each
-    /// tried again until it is served, the command is committed, and the stores are made. The player was linked at the
-    /// node `old` and is linked at `new`.
+    /// tried again until it is served, the command is committed, the stores are made, and the write nodes are given back.
+    /// `again` is the own record as it was loaded again.
     pub fn write_effect<R: Wait>(
         &self,
         rt: &R,
         hand: &mut Hand,
         refusals: &mut Refusals,
-        own: &LoadedPlayer,
-        wanted: &NodeQueue,
+        held: &Held,
+        again: &LoadedPlayer,
         effect: &Effect,
-        slot: u8,
-        old: u8,
-        new: u8,
-        nodes: &[u8],
     ) -> u64
-        requires own { IsOwn A.meaning self.now hand.old }
+        requires own { IsOwnHand A.meaning self.now hand.old }
         requires at { hand.old.view.point ≡ Resolving }
         requires effect { effect.now ≡ effect_loaded (fixed_in A.meaning self.now) hand.old.view }
-        requires slot { slot ≡ hand.old.view.cmd.slot }
-        requires old_node { old ≡ home (fixed_in A.meaning self.now)
-            (record_read hand.old.view.cmd.slot hand.old.view.again) }
-        requires new_node { new ≡ home (fixed_in A.meaning self.now) effect.now.me }
-        requires nodes { nodes.now ≡ nodes_written (fixed_in A.meaning self.now) hand.old.view effect.now }
-        requires own_is { own.now ≡ hand.old.view.own }
-        requires wanted_is { wanted.now.items ≡ hand.old.view.wanted }
-        ensures own { IsOwn A.meaning self.now hand.new }
-        ensures written { HasTried hand.old
-            (view_after_stores (fixed_in A.meaning self.now) result effect.now nodes.now hand.old.view) hand.new }
-        ensures seen { hand.old.view.seen ≤ result }
-        ensures small { result + 1 < 2 ^ 64 }
+        requires held { AreHeldFor (fixed_in A.meaning self.now) held.now hand.old.view }
+        requires again_is { again.now ≡ hand.old.view.again }
+        ensures own { IsOwnHand A.meaning self.now hand.new }
+        ensures written { HasWritten effect.now result hand.old hand.new }
         ensures refusals { AreRefusals refusals.old hand.old.view → AreRefusals refusals.new hand.new.view }
     {
-        self.take_write_nodes(rt, hand, refusals, own, wanted, effect, nodes);
+        let (old, new) = self.homes(&read_record(held.slot, again), effect);
+        let queue = self.write_nodes(old, new);
+        let nodes = queue.as_slice();
+        self.take_write_nodes(rt, hand, refusals, held, effect, nodes);
         let place = self.commit_on(hand, effect, nodes);
-        self.store_all(hand, slot, effect, old, new);
+        self.store_all(hand, held.slot, effect, old, new);
+        self.release_nodes(hand, nodes);
         place
     }
 }

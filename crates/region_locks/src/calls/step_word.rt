@@ -3,7 +3,7 @@ ghost use Rattle.core_steps.specs.declared.step.StepKind.TheVariants.{Commit};
 ghost use Rattle.core_steps.specs.Machine.{ReadPlayer, YieldCount, index_of, kind_of};
 ghost use Rattle.core_steps.specs.Reads.{record_read};
 ghost use Rattle.core_seats.specs.Nexts.{the_next};
-ghost use Rattle.ruled_words.specs.Holders.{IsFoundHeld, AreReached};
+ghost use Rattle.ruled_words.specs.Holders.{IsFoundNode};
 ghost use Rattle.ruled_words.specs.Passes.{fixed_in, word_after, IsOwn, next_in, after_in};
 ghost use Rattle.ruled_words.specs.WordSteps.{word_by, MayBe};
 
@@ -29,10 +29,8 @@ impl<'a, A: Action> NodeTable<'a, A> {
             → the_next (next_in A.meaning self.now pass.old) ≡ ReadPlayer node part slot players plan
             → length part ≡ 5 → (A.meaning self.now.action).takes (record_read slot (part ++ result ∷ [])) ≡ true }
         ensures counted { the_next (next_in A.meaning self.now pass.old) ≡ YieldCount → pass.old.view.seen ≤ result }
-        ensures held { IsFoundHeld (fixed_in A.meaning self.now) (length self.now.rooms) pass.old.number
+        ensures node { IsFoundNode (fixed_in A.meaning self.now) (length self.now.rooms) pass.old.number pass.old.view
             (the_next (next_in A.meaning self.now pass.old)) result }
-        ensures reached { AreReached (fixed_in A.meaning self.now) pass.old.view
-            (the_next (next_in A.meaning self.now pass.old)) }
         ensures seen { kind_of (the_next (next_in A.meaning self.now pass.old)) ≡ Commit
             → pass.old.view.seen ≤ result }
         ensures stored { (new : ℕ) → step ≡ WordStep.Store new → result ≡ new }

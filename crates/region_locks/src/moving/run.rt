@@ -4,23 +4,23 @@ ghost use Rattle.entity_recs.specs.Histories as histories;
 ghost use Rattle.core_steps.specs.Machine.{IsPending};
 ghost use Rattle.core_steps.specs.Steps.{visiting};
 ghost use Rattle.core_steps.specs.Nodes.{has, plan_of};
-ghost use Rattle.core_steps.specs.Points.{Idle, Resolving};
-ghost use Rattle.core_steps.specs.Reads.{effect_loaded};
+ghost use Rattle.core_steps.specs.Points.{Idle};
 ghost use Rattle.core_steps.specs.Reads.{region_in};
 ghost use Rattle.core_seats.specs.Refusals.{AreRefusals};
+ghost use Rattle.ruled_words.specs.Hands.{IsOwnHand, plain_pass};
 ghost use Rattle.ruled_words.specs.Passes.{fixed_in, IsOwn};
 ghost use Rattle.region_locks.specs.Moves.{HasRun};
 ghost use Rattle.region_locks.specs.Quitting.{MayBegin};
-ghost use Rattle.region_locks.specs.Runs.{HoldsLeavesOf, HasReadAll, HasWritten, HasMoved, AreHeldFor};
+ghost use Rattle.ruled_words.specs.Straight.{AreHeldFor};
+ghost use Rattle.region_locks.specs.Runs.{HoldsLeavesOf, HasReadAll, HasMoved};
 
 use crate::gate::{Gate, Moment, show_moment};
-use crate::moving::held::Held;
 use crate::pass::Pass;
 use crate::table::NodeTable;
-use core_seats::{LoadedPlayer, Refusals, read_record};
+use core_seats::{LoadedPlayer, Refusals};
 use entity_recs::{Action, Cmd, Effect, Entry};
 use move_journal::{same_entry, same_reply};
-use ruled_words::{Hand, SharedWords};
+use ruled_words::{Hand, Held, SharedWords};
 use std::sync::Wait;
 use world_tree::NearList;
 
@@ -45,11 +45,11 @@ fn hold_leaves<A: Action, R: Wait, G: Gate>(
     cmd: &Cmd,
     gate: &G,
 ) -> Held
-    requires own { IsOwn A.meaning words.now hand.old }
+    requires own { IsOwn A.meaning words.now (plain_pass hand.old) }
     requires idle { hand.old.view.point ≡ Idle }
     requires pending { IsPending (fixed_in A.meaning words.now) hand.old.view (command_of cmd.now) }
     requires serves { cmd.now.slot % length words.now.rooms ≡ hand.old.number }
-    ensures own { IsOwn A.meaning words.now hand.new }
+    ensures own { IsOwnHand A.meaning words.now hand.new }
     ensures holds { HoldsLeavesOf (fixed_in A.meaning words.now) (command_of cmd.now) result.own hand.old hand.new }
     ensures held { AreHeldFor (fixed_in A.meaning words.now) result hand.new.view }
     ensures refusals { AreRefusals refusals.old hand.old.view → AreRefusals refusals.new hand.new.view }
@@ -59,15 +59,17 @@ fn hold_leaves<A: Action, R: Wait, G: Gate>(
     let rules = words.rules();
     let (leaves, inner) = rules.node_bits(&region);
     let wanted = rules.nodes_of(leaves);
-    words.take_leaves(rt, hand, refusals, &own, &wanted, leaves);
-    gate.at(&Moment::at_leaves(hand, cmd));
-    Held {
+    let held = Held {
+        slot: cmd.slot,
         own,
         region,
         leaves,
         inner,
         wanted,
-    }
+    };
+    words.take_leaves(rt, hand, refusals, &held);
+    gate.at(&Moment::at_leaves(hand, cmd));
+    held
 }
 
 /// Loads all that the region holds, and gives the effect. The near list has room for 64 records and all that live at the
@@ -83,7 +85,7 @@ fn read_region<A: Action, R: Wait, G: Gate>(
     again: &LoadedPlayer,
     gate: &G,
 ) -> Effect
-    requires own { IsOwn A.meaning words.now hand.old }
+    requires own { IsOwnHand A.meaning words.now hand.old }
     requires at { let F = fixed_in A.meaning words.now in let v = hand.old.view in
         v.point ≡ visiting F v (plan_of F (region_in F v.cmd v.own)) }
     requires others { hand.old.view.others ≡ [] }
@@ -91,67 +93,16 @@ fn read_region<A: Action, R: Wait, G: Gate>(
     requires cmd_is { command_of cmd.now ≡ hand.old.view.cmd }
     requires again_is { again.now ≡ hand.old.view.again }
     requires room { 64 + length (fixed_in A.meaning words.now).start.ids ≤ near.old.room }
-    ensures own { IsOwn A.meaning words.now hand.new }
+    ensures own { IsOwnHand A.meaning words.now hand.new }
     ensures read { HasReadAll (fixed_in A.meaning words.now) result hand.old hand.new }
     ensures refusals { AreRefusals refusals.old hand.old.view → AreRefusals refusals.new hand.new.view }
     ensures room { near.new.room ≡ near.old.room }
 {
     let mut by_slot = [[0; 6]; 64];
-    let seen = words.read_nodes(
-        rt,
-        hand,
-        refusals,
-        &held.own,
-        &held.wanted,
-        held.leaves,
-        held.inner,
-        cmd.slot,
-        &mut by_slot,
-    );
+    let seen = words.read_nodes(rt, hand, refusals, held, &mut by_slot);
     let effect = words.read_effect(hand, near, cmd, &held.region, again, seen, &by_slot);
     gate.at(&Moment::at_effect(words, hand, cmd, &effect));
     effect
-}
-
-/// Takes the write nodes of the effect, commits, makes its stores and gives the write nodes back. It gives the place
-/// of the commit.
-fn write_region<A: Action, R: Wait>(
-    words: &SharedWords<A>,
-    rt: &R,
-    hand: &mut Hand,
-    refusals: &mut Refusals,
-    slot: u8,
-    held: &Held,
-    again: &LoadedPlayer,
-    effect: &Effect,
-) -> u64
-    requires own { IsOwn A.meaning words.now hand.old }
-    requires at { hand.old.view.point ≡ Resolving }
-    requires effect { effect.now ≡ effect_loaded (fixed_in A.meaning words.now) hand.old.view }
-    requires held { AreHeldFor (fixed_in A.meaning words.now) held.now hand.old.view }
-    requires slot { slot ≡ hand.old.view.cmd.slot }
-    requires again_is { again.now ≡ hand.old.view.again }
-    ensures own { IsOwn A.meaning words.now hand.new }
-    ensures written { HasWritten effect.now result hand.old hand.new }
-    ensures refusals { AreRefusals refusals.old hand.old.view → AreRefusals refusals.new hand.new.view }
-{
-    let before = read_record(slot, again);
-    let (old, new) = words.homes(hand, &before, effect);
-    let nodes = words.write_nodes(old, new);
-    let place = words.write_effect(
-        rt,
-        hand,
-        refusals,
-        &held.own,
-        &held.wanted,
-        effect,
-        slot,
-        old,
-        new,
-        nodes.as_slice(),
-    );
-    words.release_nodes(hand, nodes.as_slice());
-    place
 }
 
 /// Runs the command on a hand that rests, and gives its entry. The near list has room for 64 records and all that live at
@@ -165,12 +116,12 @@ fn run_hand<A: Action, R: Wait, G: Gate>(
     cmd: &Cmd,
     gate: &G,
 ) -> Entry
-    requires own { IsOwn A.meaning words.now hand.old }
+    requires own { IsOwn A.meaning words.now (plain_pass hand.old) }
     requires idle { hand.old.view.point ≡ Idle }
     requires pending { IsPending (fixed_in A.meaning words.now) hand.old.view (command_of cmd.now) }
     requires serves { cmd.now.slot % length words.now.rooms ≡ hand.old.number }
     requires room { 64 + length (fixed_in A.meaning words.now).start.ids ≤ near.old.room }
-    ensures own { IsOwn A.meaning words.now hand.new }
+    ensures own { IsOwnHand A.meaning words.now hand.new }
     ensures moved { HasMoved (command_of cmd.now) result hand.old hand.new }
     ensures refusals { AreRefusals refusals.old hand.old.view → AreRefusals refusals.new hand.new.view }
     ensures room { near.new.room ≡ near.old.room }
@@ -178,10 +129,10 @@ fn run_hand<A: Action, R: Wait, G: Gate>(
     let held = hold_leaves(words, rt, hand, refusals, cmd, gate);
     let again = words.own_again(hand, cmd.slot);
     let effect = read_region(words, rt, hand, refusals, near, cmd, &held, &again, gate);
-    let place = write_region(words, rt, hand, refusals, cmd.slot, &held, &again, &effect);
+    let place = words.write_effect(rt, hand, refusals, &held, &again, &effect);
     let committed = Moment::at_commit(hand, cmd, entry_of(place, cmd, &effect));
     let entry = show_moment(committed, gate).unwrap();
-    words.return_leaves(hand, held.leaves);
+    words.return_leaves(hand, &held);
     entry
 }
 
@@ -196,7 +147,6 @@ impl<'a, A: Action> NodeTable<'a, A> {
         ensures { HasRun (fixed_in A.meaning self.now) (length self.now.rooms) self.now.table pass.old pass.new
             (command_of cmd) result }
     {
-        pass.hand.is_plain();
         pass.mirror.forget();
         let entry = run_hand(
             &self.words,

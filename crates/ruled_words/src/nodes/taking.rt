@@ -3,67 +3,60 @@ ghost use Rattle.core_steps.specs.Machine.{TakeNode};
 ghost use Rattle.core_steps.specs.Steps.{point_after_take, view_after_refusal};
 ghost use Rattle.core_steps.specs.Points.{Taking, Checking};
 ghost use Rattle.core_steps.specs.Reads.{View};
-ghost use Rattle.core_steps.specs.Held.{leaf_word};
 ghost use Rattle.core_seats.specs.Refusals.{AreRefusals};
-ghost use Rattle.ruled_words.specs.Passes.{fixed_in, IsOwn, next_in, node_taken_next, word_after};
-ghost use Rattle.ruled_words.specs.Straight.{IsTriedOn};
+ghost use Rattle.ruled_words.specs.Hands.{IsOwnHand};
+ghost use Rattle.ruled_words.specs.Passes.{fixed_in, next_in, node_taken_next, word_after};
+ghost use Rattle.ruled_words.specs.Straight.{AreHeldFor, IsTriedOn};
 ghost use Rattle.ruled_words.specs.Tries.{IsTried, tried_until};
 ghost use Rattle.ruled_words.specs.WordSteps.{word_by};
 
 use crate::hand::Hand;
+use crate::held::Held;
 use crate::shared_words::SharedWords;
 use crate::word_step::WordStep;
-use core_seats::{LoadedPlayer, NodeQueue, Refusals, lowest_bit, without_bit};
+use core_seats::{Refusals, lowest_bit, without_bit};
 use core_steps::{NODE_HOLDERS, node_word};
 use entity_recs::Action;
 use std::sync::Wait;
 use std::thread;
 
 /// Whether the take was served: it found 0. One that was refused is counted.
-pub(crate) fn note_refused(
-    refusals: &mut Refusals,
-    own: &LoadedPlayer,
-    wanted: &NodeQueue,
-    node: u8,
-    found: u64,
-) -> bool
+pub(crate) fn note_refused(refusals: &mut Refusals, held: &Held, node: u8, found: u64) -> bool
     ensures served { result ≡ (found == 0) }
-    ensures noted { (view : View) → own.now ≡ view.own → wanted.now.items ≡ view.wanted
+    ensures noted { (view : View) → held.now.own ≡ view.own → held.now.wanted.items ≡ view.wanted
         → AreRefusals refusals.old view
         → AreRefusals refusals.new (if found == 0 then view else view_after_refusal node found view) }
 {
     if found == 0 {
         return true;
     }
-    refusals.note(node, found, own, wanted);
+    refusals.note(node, found, &held.own, &held.wanted);
     false
 }
 
 impl<'a, A: Action> SharedWords<'a, A> {
     /// Tries to take the node, which comes next, with this word: false where another pass holds it. The refused take is
-    /// then noted, with the own record and the leaves wanted.
+    /// then noted, with the own record and the wanted leaves.
     pub(crate) fn try_node(
         &self,
         hand: &mut Hand,
         refusals: &mut Refusals,
-        own: &LoadedPlayer,
-        wanted: &NodeQueue,
+        held: &Held,
         node: u8,
         new: u64,
     ) -> bool
-        requires own { IsOwn A.meaning self.now hand.old }
+        requires own { IsOwnHand A.meaning self.now hand.old }
         requires next { node_taken_next (next_in A.meaning self.now hand.old) ≡ Some node }
         requires word { (found : ℕ) → word_after (fixed_in A.meaning self.now) hand.old found
             ≡ word_by (WordStep.Take new) found }
-        requires own_is { own.now ≡ hand.old.view.own }
-        requires wanted_is { wanted.now.items ≡ hand.old.view.wanted }
-        ensures own { IsOwn A.meaning self.now hand.new }
+        requires held { AreHeldFor (fixed_in A.meaning self.now) held.now hand.old.view }
+        ensures own { IsOwnHand A.meaning self.now hand.new }
         ensures pass { IsTried (fixed_in A.meaning self.now) hand.old hand.new result }
         ensures tried { IsTriedOn hand.old.tally hand.new.tally }
         ensures refusals { AreRefusals refusals.old hand.old.view → AreRefusals refusals.new hand.new.view }
     {
         let found = self.step_hand(hand, usize::from(node_word(node)), WordStep::Take(new));
-        note_refused(refusals, own, wanted, node, found)
+        note_refused(refusals, held, node, found)
     }
 
     /// Takes the node, which comes next, with this word. Where another pass holds it, it is tried again until it is
@@ -73,25 +66,22 @@ impl<'a, A: Action> SharedWords<'a, A> {
         rt: &R,
         hand: &mut Hand,
         refusals: &mut Refusals,
-        own: &LoadedPlayer,
-        wanted: &NodeQueue,
+        held: &Held,
         node: u8,
         new: u64,
     )
-        requires own { IsOwn A.meaning self.now hand.old }
+        requires own { IsOwnHand A.meaning self.now hand.old }
         requires next { next_in A.meaning self.now hand.old ≡ Some (TakeNode node) }
         requires word { (found : ℕ) → word_after (fixed_in A.meaning self.now) hand.old found
             ≡ word_by (WordStep.Take new) found }
-        requires own_is { own.now ≡ hand.old.view.own }
-        requires wanted_is { wanted.now.items ≡ hand.old.view.wanted }
-        ensures own { IsOwn A.meaning self.now hand.new }
+        requires held { AreHeldFor (fixed_in A.meaning self.now) held.now hand.old.view }
+        ensures own { IsOwnHand A.meaning self.now hand.new }
         ensures view { hand.new ≡ tried_until hand.old (point_after_take node hand.old.view.point) hand.new }
         ensures tried { IsTriedOn hand.old.tally hand.new.tally }
         ensures refusals { AreRefusals refusals.old hand.old.view → AreRefusals refusals.new hand.new.view }
     {
-        hand.is_plain();
         for _ in rt.forever() {
-            if self.try_node(hand, refusals, own, wanted, node, new) {
+            if self.try_node(hand, refusals, held, node, new) {
                 return;
             }
             thread::yield_now();
@@ -105,29 +95,24 @@ impl<'a, A: Action> SharedWords<'a, A> {
         rt: &R,
         hand: &mut Hand,
         refusals: &mut Refusals,
-        own: &LoadedPlayer,
-        wanted: &NodeQueue,
-        leaves: u32,
+        held: &Held,
     )
-        requires own { IsOwn A.meaning self.now hand.old }
+        requires own { IsOwnHand A.meaning self.now hand.old }
         requires at { hand.old.view.point ≡ Taking [] hand.old.view.wanted }
-        requires leaves { leaves ≡ leaf_word (fixed_in A.meaning self.now) hand.old.view.wanted }
-        requires own_is { own.now ≡ hand.old.view.own }
-        requires wanted_is { wanted.now.items ≡ hand.old.view.wanted }
-        ensures own { IsOwn A.meaning self.now hand.new }
+        requires held { AreHeldFor (fixed_in A.meaning self.now) held.now hand.old.view }
+        ensures own { IsOwnHand A.meaning self.now hand.new }
         ensures view { hand.new ≡ tried_until hand.old Checking hand.new }
         ensures tried { IsTriedOn hand.old.tally hand.new.tally }
         ensures refusals { AreRefusals refusals.old hand.old.view → AreRefusals refusals.new hand.new.view }
     {
-        hand.is_plain();
         // The word of a leaf that is held names the pass and the leaves of its command.
-        let new = u64::from(hand.number) + NODE_HOLDERS * u64::from(leaves) + 1;
+        let new = u64::from(hand.number) + NODE_HOLDERS * u64::from(held.leaves) + 1;
         let first = self.first_leaf();
-        let mut rest = u64::from(leaves);
+        let mut rest = u64::from(held.leaves);
         while rest != 0 {
             let leaf = lowest_bit(rest);
             rest = without_bit(rest, leaf);
-            self.take_node(rt, hand, refusals, own, wanted, first + leaf, new);
+            self.take_node(rt, hand, refusals, held, first + leaf, new);
         }
     }
 }

@@ -7,6 +7,7 @@ ghost use Rattle.core_steps.specs.Nodes.{plan_of};
 ghost use Rattle.core_steps.specs.Points.{Idle, Checking};
 ghost use Rattle.core_steps.specs.Reads.{region_in};
 ghost use Rattle.ruled_words.specs.Loads.{after_loads, record_loaded_next};
+ghost use Rattle.ruled_words.specs.Hands.{IsOwnHand, plain_pass};
 ghost use Rattle.ruled_words.specs.Passes.{fixed_in, IsOwn, next_in};
 ghost use Rattle.ruled_words.specs.Straight.{in_view, in_view_with, is_taking_leaves, taking_leaves};
 
@@ -43,17 +44,16 @@ impl<'a, A: Action> SharedWords<'a, A> {
     /// Loads the own record for the command, which are the hand's next six steps, and gives its words. With the first
     /// word the command enters the view, and after the last one the leaves are to be taken.
     pub fn own_words(&self, hand: &mut Hand, cmd: &Cmd) -> LoadedPlayer
-        requires own { IsOwn A.meaning self.now hand.old }
+        requires own { IsOwn A.meaning self.now (plain_pass hand.old) }
         requires idle { hand.old.view.point ≡ Idle }
         requires pending { IsPending (fixed_in A.meaning self.now) hand.old.view (command_of cmd.now) }
         requires serves { cmd.now.slot % length self.now.rooms ≡ hand.old.number }
-        ensures own { IsOwn A.meaning self.now hand.new }
+        ensures own { IsOwnHand A.meaning self.now hand.new }
         ensures view { hand.new ≡ in_view_with hand.old
             (taking_leaves (fixed_in A.meaning self.now) (command_of cmd.now) result hand.old.view)
             (record hand.old.tally { begun = suc hand.old.tally.begun }) }
         ensures six { length result ≡ 6 }
     {
-        hand.is_plain();
         let mut words: WordList = ArrayVec::new();
         words.push(self.begin_hand(hand, cmd));
         for k in 1..6usize {
@@ -64,9 +64,9 @@ impl<'a, A: Action> SharedWords<'a, A> {
 
     /// Loads the record of the player in this slot, which are the hand's next six steps, and gives its words.
     pub(crate) fn load_player_words(&self, hand: &mut Hand, slot: u8) -> LoadedPlayer
-        requires own { IsOwn A.meaning self.now hand.old }
+        requires own { IsOwnHand A.meaning self.now hand.old }
         requires next { record_loaded_next hand.old.view (next_in A.meaning self.now hand.old) ≡ Some slot }
-        ensures own { IsOwn A.meaning self.now hand.new }
+        ensures own { IsOwnHand A.meaning self.now hand.new }
         ensures pass { hand.new ≡ after_loads (fixed_in A.meaning self.now) hand.old result }
         ensures six { length result ≡ 6 }
     {
@@ -80,11 +80,11 @@ impl<'a, A: Action> SharedWords<'a, A> {
     /// Loads the own record again, once all leaves are held, and gives its words. Then the nodes of the region are to be
     /// visited.
     pub fn own_again(&self, hand: &mut Hand, slot: u8) -> LoadedPlayer
-        requires own { IsOwn A.meaning self.now hand.old }
+        requires own { IsOwnHand A.meaning self.now hand.old }
         requires at { hand.old.view.point ≡ Checking }
         requires none { hand.old.view.again ≡ [] }
         requires slot { slot ≡ hand.old.view.cmd.slot }
-        ensures own { IsOwn A.meaning self.now hand.new }
+        ensures own { IsOwnHand A.meaning self.now hand.new }
         ensures view { let F = fixed_in A.meaning self.now in let v = hand.old.view in
             hand.new ≡ in_view hand.old (record v {
               again = result;
@@ -92,13 +92,12 @@ impl<'a, A: Action> SharedWords<'a, A> {
             }) }
         ensures six { length result ≡ 6 }
     {
-        hand.is_plain();
         self.load_player_words(hand, slot)
     }
 
     /// The region of the command, by the own record that was loaded.
     pub fn region_of(&self, hand: &Hand, cmd: &Cmd, own: &LoadedPlayer) -> Region
-        requires own { IsOwn A.meaning self.now hand.now }
+        requires own { IsOwnHand A.meaning self.now hand.now }
         requires at { is_taking_leaves hand.now.view.point ≡ true }
         requires cmd_is { command_of cmd.now ≡ hand.now.view.cmd }
         requires own_is { own.now ≡ hand.now.view.own }

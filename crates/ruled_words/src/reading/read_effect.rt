@@ -6,7 +6,7 @@ ghost use Rattle.core_steps.specs.Reads.{region_in, things_in, effect_loaded};
 ghost use Rattle.core_steps.specs.Steps.{sensing};
 ghost use Rattle.core_seats.specs.NearKept.{players_kept};
 ghost use Rattle.ruled_words.specs.Passes.{fixed_in, IsOwn};
-ghost use Rattle.ruled_words.specs.Hands.{pass_keeping};
+ghost use Rattle.ruled_words.specs.Hands.{IsOwnHand, pass_keeping};
 ghost use Rattle.ruled_words.specs.Straight.{in_view, HasKept};
 
 use crate::hand::Hand;
@@ -58,7 +58,7 @@ impl<'a, A: Action> SharedWords<'a, A> {
         seen: u64,
         by_slot: &LoadedPlayers,
     ) -> Effect
-        requires own { IsOwn A.meaning self.now hand.old }
+        requires own { IsOwnHand A.meaning self.now hand.old }
         requires at { let F = fixed_in A.meaning self.now in
             hand.old.view.point ≡ sensing (things_in F (region_in F hand.old.view.cmd hand.old.view.own)) }
         requires region_is { region.now
@@ -67,14 +67,13 @@ impl<'a, A: Action> SharedWords<'a, A> {
         requires again_is { again.now ≡ hand.old.view.again }
         requires kept { HasKept seen by_slot.now hand.old.view.others }
         requires room { 64 + length (fixed_in A.meaning self.now).start.ids ≤ near.old.room }
-        ensures own { IsOwn A.meaning self.now hand.new }
+        ensures own { IsOwnHand A.meaning self.now hand.new }
         ensures view { hand.new ≡ in_view hand.old
             (record hand.old.view { states = hand.new.view.states; point = Resolving }) }
         ensures effect { result ≡ effect_loaded (fixed_in A.meaning self.now) hand.new.view }
         ensures resolved { IsOwn A.meaning self.now (pass_keeping hand.new result) }
         ensures room { near.new.room ≡ near.old.room }
     {
-        self.ids_rise();
         near.clear();
         self.put_players(seen, by_slot, region, cmd.slot, near);
         self.load_states(hand, region, near);

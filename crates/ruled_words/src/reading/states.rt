@@ -6,7 +6,8 @@ ghost use Rattle.core_steps.specs.Reads.{region_in, things_in};
 ghost use Rattle.core_steps.specs.Steps.{sensing, view_after_state};
 ghost use Rattle.core_seats.specs.NearKept.{AreThings, things_loaded};
 ghost use Rattle.core_seats.specs.ThingStrips.{MarksThings};
-ghost use Rattle.ruled_words.specs.Passes.{fixed_in, IsOwn};
+ghost use Rattle.ruled_words.specs.Hands.{IsOwnHand};
+ghost use Rattle.ruled_words.specs.Passes.{fixed_in};
 ghost use Rattle.ruled_words.specs.Straight.{in_view};
 ghost use Rattle.ruled_words.specs.Sensing.{after_thing};
 
@@ -20,16 +21,10 @@ use entity_recs::{Action, Rec};
 use world_tree::NearList;
 
 impl<'a, A: Action> SharedWords<'a, A> {
-    /// The ids of the start rise.
-    pub(crate) fn ids_rise(&self)
-        ensures { IsStrictlyIncreasing (fixed_in A.meaning self.now).start.ids }
-    {
-        self.rules.is_ruled();
-    }
-
     /// The things of the map at the start, in rising id.
     fn map_things(&self) -> &[Rec]
-        ensures { AreThings (fixed_in A.meaning self.now) result.now }
+        ensures things { AreThings (fixed_in A.meaning self.now) result.now }
+        ensures rise { IsStrictlyIncreasing (fixed_in A.meaning self.now).start.ids }
     {
         self.rules.map_things()
     }
@@ -44,14 +39,13 @@ impl<'a, A: Action> SharedWords<'a, A> {
 
     /// Loads the state of the thing, which comes next, and gives the thing with that state.
     fn load_thing(&self, hand: &mut Hand, r: &Rec) -> Rec
-        requires own { IsOwn A.meaning self.now hand.old }
+        requires own { IsOwnHand A.meaning self.now hand.old }
         requires at { hand.old.view.point ≡ Sensing (r.now.id ∷ after_thing hand.old.view.point) }
-        ensures own { IsOwn A.meaning self.now hand.new }
+        ensures own { IsOwnHand A.meaning self.now hand.new }
         ensures view { hand.new ≡ in_view hand.old
             (view_after_state r.now.id result.state (after_thing hand.old.view.point) hand.old.view) }
         ensures thing { result ≡ with_state r.now result.state }
     {
-        hand.is_plain();
         let word = usize::from(FIRST_STATE_WORD) + usize::from(r.id);
         let state = self.step_hand(hand, word, WordStep::Load);
         Rec { state, ..*r }
@@ -61,22 +55,21 @@ impl<'a, A: Action> SharedWords<'a, A> {
     /// with their states after the players that are near, of whom there are at most 64. The list has room for 64 records
     /// and all that live at the start.
     pub(crate) fn load_states(&self, hand: &mut Hand, region: &Region, near: &mut NearList)
-        requires own { IsOwn A.meaning self.now hand.old }
+        requires own { IsOwnHand A.meaning self.now hand.old }
         requires at { let F = fixed_in A.meaning self.now in
             hand.old.view.point ≡ sensing (things_in F (region_in F hand.old.view.cmd hand.old.view.own)) }
         requires region_is { region.now
             ≡ region_in (fixed_in A.meaning self.now) hand.old.view.cmd hand.old.view.own }
         requires few { length near.old.items ≤ 64 }
         requires room { 64 + length (fixed_in A.meaning self.now).start.ids ≤ near.old.room }
-        ensures own { IsOwn A.meaning self.now hand.new }
+        ensures own { IsOwnHand A.meaning self.now hand.new }
         ensures view { hand.new ≡ in_view hand.old
             (record hand.old.view { states = hand.new.view.states; point = Resolving }) }
         ensures near { near.new.items ≡ near.old.items ++ things_loaded (fixed_in A.meaning self.now) region.now
             hand.new.view.states }
+        ensures rise { IsStrictlyIncreasing (fixed_in A.meaning self.now).start.ids }
         ensures room { near.new.room ≡ near.old.room }
     {
-        hand.is_plain();
-        self.ids_rise();
         let bits = self.thing_bits(region);
         let things = self.map_things();
         let mut at = 0;

@@ -5,14 +5,16 @@ ghost use Rattle.core_steps.specs.Nodes.{inner_nodes, inner_visited, plan_of};
 ghost use Rattle.core_steps.specs.Points.{Entering, Entered, Leaving};
 ghost use Rattle.core_steps.specs.Reads.{region_in};
 ghost use Rattle.core_seats.specs.Refusals.{AreRefusals};
-ghost use Rattle.ruled_words.specs.Passes.{fixed_in, IsOwn};
-ghost use Rattle.ruled_words.specs.Straight.{HasKept, IsTriedOn, in_view, in_view_with, nodes_read};
+ghost use Rattle.ruled_words.specs.Hands.{IsOwnHand};
+ghost use Rattle.ruled_words.specs.Passes.{fixed_in};
+ghost use Rattle.ruled_words.specs.Straight.{AreHeldFor, HasKept, IsTriedOn, in_view, in_view_with, nodes_read};
 ghost use Rattle.ruled_words.specs.Visits.{plan_left, read_until, under_until, visited_until};
 
 use crate::hand::Hand;
+use crate::held::Held;
 use crate::shared_words::SharedWords;
 use crate::word_step::WordStep;
-use core_seats::{LoadedPlayer, LoadedPlayers, NodeQueue, Refusals, lowest_bit, without_bit};
+use core_seats::{LoadedPlayers, Refusals, lowest_bit, without_bit};
 use core_steps::list_word;
 use entity_recs::Action;
 use std::sync::Wait;
@@ -27,15 +29,14 @@ impl<'a, A: Action> SharedWords<'a, A> {
         slot: u8,
         by_slot: &mut LoadedPlayers,
     ) -> u64
-        requires own { IsOwn A.meaning self.now hand.old }
+        requires own { IsOwnHand A.meaning self.now hand.old }
         requires at { hand.old.view.point ≡ Entered node (plan_left hand.old.view.point) }
         requires slot { slot ≡ hand.old.view.cmd.slot }
-        ensures own { IsOwn A.meaning self.now hand.new }
+        ensures own { IsOwnHand A.meaning self.now hand.new }
         ensures view { hand.new ≡ under_until (fixed_in A.meaning self.now) hand.old node [] hand.new }
         ensures kept { (seen : ℕ) → HasKept seen by_slot.old hand.old.view.others
             → HasKept (bit_or seen result) by_slot.new hand.new.view.others }
     {
-        hand.is_plain();
         let list = self.step_hand(hand, usize::from(list_word(node)), WordStep::Load);
         let players = without_bit(list, slot);
         let mut rest = players;
@@ -52,43 +53,38 @@ impl<'a, A: Action> SharedWords<'a, A> {
     pub(crate) fn read_leaves(
         &self,
         hand: &mut Hand,
-        leaves: u32,
-        slot: u8,
+        held: &Held,
         by_slot: &mut LoadedPlayers,
     ) -> u64
-        requires own { IsOwn A.meaning self.now hand.old }
+        requires own { IsOwnHand A.meaning self.now hand.old }
         requires at { let F = fixed_in A.meaning self.now in let v = hand.old.view in
             v.point ≡ visiting F v (plan_of F (region_in F v.cmd v.own)) }
-        requires leaves { let F = fixed_in A.meaning self.now in let v = hand.old.view in
-            leaves ≡ leaves_of F.tree (region_in F v.cmd v.own) }
-        requires slot { slot ≡ hand.old.view.cmd.slot }
-        ensures own { IsOwn A.meaning self.now hand.new }
+        requires held { AreHeldFor (fixed_in A.meaning self.now) held.now hand.old.view }
+        ensures own { IsOwnHand A.meaning self.now hand.new }
         ensures view { let F = fixed_in A.meaning self.now in let v = hand.old.view in
             hand.new ≡ read_until hand.old (visiting F v (inner_visited F (region_in F v.cmd v.own))) hand.new }
         ensures kept { (seen : ℕ) → HasKept seen by_slot.old hand.old.view.others
             → HasKept (bit_or seen result) by_slot.new hand.new.view.others }
     {
-        hand.is_plain();
         let first = self.first_leaf();
         let mut seen = 0;
-        let mut rest = u64::from(leaves);
+        let mut rest = u64::from(held.leaves);
         while rest != 0 {
             let leaf = lowest_bit(rest);
             rest = without_bit(rest, leaf);
-            seen |= self.read_under(hand, first + leaf, slot, by_slot);
+            seen |= self.read_under(hand, first + leaf, held.slot, by_slot);
         }
         seen
     }
 
     /// Gives back the inner node, of which all is read.
     fn leave(&self, hand: &mut Hand, node: u8)
-        requires own { IsOwn A.meaning self.now hand.old }
+        requires own { IsOwnHand A.meaning self.now hand.old }
         requires at { hand.old.view.point ≡ Leaving node (plan_left hand.old.view.point) }
-        ensures own { IsOwn A.meaning self.now hand.new }
+        ensures own { IsOwnHand A.meaning self.now hand.new }
         ensures view { let v = hand.old.view in hand.new ≡ in_view hand.old
             (record v { point = visiting (fixed_in A.meaning self.now) v (plan_left v.point) }) }
     {
-        hand.is_plain();
         self.give_on(hand, node);
     }
 
@@ -98,19 +94,15 @@ impl<'a, A: Action> SharedWords<'a, A> {
         rt: &R,
         hand: &mut Hand,
         refusals: &mut Refusals,
-        own: &LoadedPlayer,
-        wanted: &NodeQueue,
+        held: &Held,
         node: u8,
-        slot: u8,
         by_slot: &mut LoadedPlayers,
     ) -> u64
-        requires own { IsOwn A.meaning self.now hand.old }
+        requires own { IsOwnHand A.meaning self.now hand.old }
         requires at { hand.old.view.point ≡ Entering node (plan_left hand.old.view.point) }
         requires inner { node < inner_nodes (fixed_in A.meaning self.now) }
-        requires own_is { own.now ≡ hand.old.view.own }
-        requires wanted_is { wanted.now.items ≡ hand.old.view.wanted }
-        requires slot { slot ≡ hand.old.view.cmd.slot }
-        ensures own { IsOwn A.meaning self.now hand.new }
+        requires held { AreHeldFor (fixed_in A.meaning self.now) held.now hand.old.view }
+        ensures own { IsOwnHand A.meaning self.now hand.new }
         ensures view { hand.new ≡ visited_until hand.old
             (visiting (fixed_in A.meaning self.now) hand.old.view (plan_left hand.old.view.point)) hand.new }
         ensures tried { IsTriedOn hand.old.tally hand.new.tally }
@@ -118,11 +110,10 @@ impl<'a, A: Action> SharedWords<'a, A> {
         ensures kept { (seen : ℕ) → HasKept seen by_slot.old hand.old.view.others
             → HasKept (bit_or seen result) by_slot.new hand.new.view.others }
     {
-        hand.is_plain();
         // The word of an inner node that is held to read names the pass alone.
         let new = u64::from(hand.number) + 1;
-        self.take_node(rt, hand, refusals, own, wanted, node, new);
-        let players = self.read_under(hand, node, slot, by_slot);
+        self.take_node(rt, hand, refusals, held, node, new);
+        let players = self.read_under(hand, node, held.slot, by_slot);
         self.leave(hand, node);
         players
     }
@@ -134,21 +125,14 @@ impl<'a, A: Action> SharedWords<'a, A> {
         rt: &R,
         hand: &mut Hand,
         refusals: &mut Refusals,
-        own: &LoadedPlayer,
-        wanted: &NodeQueue,
-        inner: u32,
-        slot: u8,
+        held: &Held,
         by_slot: &mut LoadedPlayers,
     ) -> u64
-        requires own { IsOwn A.meaning self.now hand.old }
+        requires own { IsOwnHand A.meaning self.now hand.old }
         requires at { let F = fixed_in A.meaning self.now in let v = hand.old.view in
             v.point ≡ visiting F v (inner_visited F (region_in F v.cmd v.own)) }
-        requires inner { let F = fixed_in A.meaning self.now in let v = hand.old.view in
-            inner ≡ visited_of F.tree.depth (leaves_of F.tree (region_in F v.cmd v.own)) % 2 ^ inner_nodes F }
-        requires own_is { own.now ≡ hand.old.view.own }
-        requires wanted_is { wanted.now.items ≡ hand.old.view.wanted }
-        requires slot { slot ≡ hand.old.view.cmd.slot }
-        ensures own { IsOwn A.meaning self.now hand.new }
+        requires held { AreHeldFor (fixed_in A.meaning self.now) held.now hand.old.view }
+        ensures own { IsOwnHand A.meaning self.now hand.new }
         ensures view { hand.new ≡ visited_until hand.old
             (visiting (fixed_in A.meaning self.now) hand.old.view []) hand.new }
         ensures tried { IsTriedOn hand.old.tally hand.new.tally }
@@ -156,13 +140,12 @@ impl<'a, A: Action> SharedWords<'a, A> {
         ensures kept { (seen : ℕ) → HasKept seen by_slot.old hand.old.view.others
             → HasKept (bit_or seen result) by_slot.new hand.new.view.others }
     {
-        hand.is_plain();
         let mut seen = 0;
-        let mut rest = u64::from(inner);
+        let mut rest = u64::from(held.inner);
         while rest != 0 {
             let node = lowest_bit(rest);
             rest = without_bit(rest, node);
-            seen |= self.visit_inner(rt, hand, refusals, own, wanted, node, slot, by_slot);
+            seen |= self.visit_inner(rt, hand, refusals, held, node, by_slot);
         }
         seen
     }
@@ -174,33 +157,23 @@ impl<'a, A: Action> SharedWords<'a, A> {
         rt: &R,
         hand: &mut Hand,
         refusals: &mut Refusals,
-        own: &LoadedPlayer,
-        wanted: &NodeQueue,
-        leaves: u32,
-        inner: u32,
-        slot: u8,
+        held: &Held,
         by_slot: &mut LoadedPlayers,
     ) -> u64
-        requires own { IsOwn A.meaning self.now hand.old }
+        requires own { IsOwnHand A.meaning self.now hand.old }
         requires at { let F = fixed_in A.meaning self.now in let v = hand.old.view in
             v.point ≡ visiting F v (plan_of F (region_in F v.cmd v.own)) }
         requires others { hand.old.view.others ≡ [] }
-        requires leaves { let F = fixed_in A.meaning self.now in let v = hand.old.view in
-            leaves ≡ leaves_of F.tree (region_in F v.cmd v.own) }
-        requires inner { let F = fixed_in A.meaning self.now in
-            inner ≡ visited_of F.tree.depth leaves % 2 ^ inner_nodes F }
-        requires own_is { own.now ≡ hand.old.view.own }
-        requires wanted_is { wanted.now.items ≡ hand.old.view.wanted }
-        requires slot { slot ≡ hand.old.view.cmd.slot }
-        ensures own { IsOwn A.meaning self.now hand.new }
+        requires held { AreHeldFor (fixed_in A.meaning self.now) held.now hand.old.view }
+        ensures own { IsOwnHand A.meaning self.now hand.new }
         ensures view { hand.new ≡ in_view_with hand.old
             (nodes_read (fixed_in A.meaning self.now) hand.old.view hand.new.view) hand.new.tally }
         ensures tried { IsTriedOn hand.old.tally hand.new.tally }
         ensures refusals { AreRefusals refusals.old hand.old.view → AreRefusals refusals.new hand.new.view }
         ensures kept { HasKept result by_slot.new hand.new.view.others }
     {
-        let outer = self.read_leaves(hand, leaves, slot, by_slot);
-        let over = self.read_inner(rt, hand, refusals, own, wanted, inner, slot, by_slot);
+        let outer = self.read_leaves(hand, held, by_slot);
+        let over = self.read_inner(rt, hand, refusals, held, by_slot);
         outer | over
     }
 }

@@ -7,9 +7,9 @@ ghost use Rattle.core_steps.specs.Reads.{record_read};
 ghost use Rattle.core_seats.specs.Nexts.{the_next};
 ghost use Rattle.core_seats.specs.Seats.{view_of};
 ghost use Rattle.ruled_words.specs.Going.{IsAtRest, view_looked};
-ghost use Rattle.ruled_words.specs.Hands.{begun_with, pass_keeping, pass_view, still_keeping};
+ghost use Rattle.ruled_words.specs.Hands.{IsOwnHand, IsPlain, begun_with, pass_keeping, pass_view, plain_pass, still_keeping};
 ghost use Rattle.ruled_words.specs.Plays.{IsSoundSight};
-ghost use Rattle.ruled_words.specs.Holders.{IsFoundHeld, AreReached};
+ghost use Rattle.ruled_words.specs.Holders.{IsFoundNode};
 ghost use Rattle.ruled_words.specs.Passes.{fixed_in, word_after, IsOwn, next_in, after_in, sight_of, HasGone};
 ghost use Rattle.ruled_words.specs.WordSteps.{word_by, MayBe};
 
@@ -24,21 +24,19 @@ impl<'a, A: Action> SharedWords<'a, A> {
     /// The hand makes its next step, which does this to the word, and gives the word that was found, or for a store the
     /// one that was stored.
     pub(crate) fn step_hand(&self, hand: &mut Hand, word: usize, step: WordStep) -> u64
-        requires own { IsOwn A.meaning self.now hand.old }
+        requires own { IsOwnHand A.meaning self.now hand.old }
         requires comes { is_some (next_in A.meaning self.now hand.old) ≡ true }
         requires index { word ≡ index_of hand.old.view (the_next (next_in A.meaning self.now hand.old)) }
         requires left { (found : ℕ) → word_after (fixed_in A.meaning self.now) hand.old found ≡ word_by step found }
         requires may { MayBe step (fixed_in A.meaning self.now) hand.old.view
             (the_next (next_in A.meaning self.now hand.old)) word }
         ensures pass { hand.new ≡ after_in A.meaning self.now result hand.old }
-        ensures own { IsOwn A.meaning self.now hand.new }
+        ensures own { IsOwnHand A.meaning self.now hand.new }
         ensures taken { (node slot : ℕ) (part players plan : List ℕ)
             → the_next (next_in A.meaning self.now hand.old) ≡ ReadPlayer node part slot players plan
             → length part ≡ 5 → (A.meaning self.now.action).takes (record_read slot (part ++ result ∷ [])) ≡ true }
-        ensures held { IsFoundHeld (fixed_in A.meaning self.now) (length self.now.rooms) hand.old.number
+        ensures node { IsFoundNode (fixed_in A.meaning self.now) (length self.now.rooms) hand.old.number hand.old.view
             (the_next (next_in A.meaning self.now hand.old)) result }
-        ensures reached { AreReached (fixed_in A.meaning self.now) hand.old.view
-            (the_next (next_in A.meaning self.now hand.old)) }
         ensures seen { kind_of (the_next (next_in A.meaning self.now hand.old)) ≡ Commit
             → hand.old.view.seen ≤ result }
         ensures small { kind_of (the_next (next_in A.meaning self.now hand.old)) ≡ Commit → result + 1 < 2 ^ 64 }
@@ -49,12 +47,12 @@ impl<'a, A: Action> SharedWords<'a, A> {
 
     /// The hand begins the command, which enters its view with the first word of the own record, and gives that word.
     pub(crate) fn begin_hand(&self, hand: &mut Hand, cmd: &Cmd) -> u64
-        requires own { IsOwn A.meaning self.now hand.old }
+        requires own { IsOwn A.meaning self.now (plain_pass hand.old) }
         requires idle { hand.old.view.point ≡ Idle }
         requires pending { IsPending (fixed_in A.meaning self.now) hand.old.view (command_of cmd.now) }
         requires serves { cmd.now.slot % length self.now.rooms ≡ hand.old.number }
-        ensures pass { hand.new ≡ begun_with (command_of cmd.now) result hand.old }
-        ensures own { IsOwn A.meaning self.now hand.new }
+        ensures pass { hand.new ≡ begun_with (command_of cmd.now) result (plain_pass hand.old) }
+        ensures own { IsOwnHand A.meaning self.now hand.new }
     {
         hand.begin_on(&self.table.shared, cmd, usize::from(record_word(cmd.slot)))
     }
@@ -79,10 +77,9 @@ impl<'a, A: Action> SharedWords<'a, A> {
         ensures pass { still_keeping hand.new effect.now
             ≡ after_in A.meaning self.now result (pass_keeping hand.old effect.now) }
         ensures own { IsOwn A.meaning self.now (still_keeping hand.new effect.now) }
-        ensures held { IsFoundHeld (fixed_in A.meaning self.now) (length self.now.rooms) hand.old.number
+        ensures plain { IsPlain hand.new }
+        ensures node { IsFoundNode (fixed_in A.meaning self.now) (length self.now.rooms) hand.old.number hand.old.view
             (the_next (next_in A.meaning self.now (pass_keeping hand.old effect.now))) result }
-        ensures reached { AreReached (fixed_in A.meaning self.now) hand.old.view
-            (the_next (next_in A.meaning self.now (pass_keeping hand.old effect.now))) }
         ensures seen { kind_of (the_next (next_in A.meaning self.now (pass_keeping hand.old effect.now))) ≡ Commit
             → hand.old.view.seen ≤ result }
         ensures small { kind_of (the_next (next_in A.meaning self.now (pass_keeping hand.old effect.now))) ≡ Commit

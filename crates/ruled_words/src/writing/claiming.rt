@@ -3,14 +3,17 @@ ghost use Rattle.core_steps.specs.Points.{Resolving, Claiming};
 ghost use Rattle.core_steps.specs.Reads.{effect_loaded};
 ghost use Rattle.core_steps.specs.Steps.{first, view_after_take, view_after_claim};
 ghost use Rattle.core_seats.specs.Refusals.{AreRefusals};
-ghost use Rattle.ruled_words.specs.Passes.{fixed_in, IsOwn};
+ghost use Rattle.ruled_words.specs.Hands.{IsOwnHand};
+ghost use Rattle.ruled_words.specs.Passes.{fixed_in};
+ghost use Rattle.ruled_words.specs.Straight.{AreHeldFor};
 ghost use Rattle.ruled_words.specs.Writing.{HasTried, nodes_written, nodes_held, claims_left, view_with_claims};
 
 use crate::hand::Hand;
+use crate::held::Held;
 use crate::nodes::taking::note_refused;
 use crate::shared_words::SharedWords;
 use crate::word_step::WordStep;
-use core_seats::{LoadedPlayer, NodeQueue, Refusals};
+use core_seats::Refusals;
 use core_steps::{NODE_HOLDERS, node_word};
 use entity_recs::{Action, Effect};
 use std::sync::Wait;
@@ -30,29 +33,25 @@ impl<'a, A: Action> SharedWords<'a, A> {
         &self,
         hand: &mut Hand,
         refusals: &mut Refusals,
-        own: &LoadedPlayer,
-        wanted: &NodeQueue,
+        held: &Held,
         effect: &Effect,
         node: u8,
     ) -> bool
-        requires own { IsOwn A.meaning self.now hand.old }
+        requires own { IsOwnHand A.meaning self.now hand.old }
         requires at { hand.old.view.point ≡ Resolving }
         requires effect { effect.now ≡ effect_loaded (fixed_in A.meaning self.now) hand.old.view }
         requires next { first (nodes_written (fixed_in A.meaning self.now) hand.old.view effect.now) ≡ Some node }
-        requires own_is { own.now ≡ hand.old.view.own }
-        requires wanted_is { wanted.now.items ≡ hand.old.view.wanted }
-        ensures own { IsOwn A.meaning self.now hand.new }
+        requires held { AreHeldFor (fixed_in A.meaning self.now) held.now hand.old.view }
+        ensures own { IsOwnHand A.meaning self.now hand.new }
         ensures tried { HasTried hand.old (if result
             then view_after_claim (fixed_in A.meaning self.now) effect.now node hand.old.view
             else hand.old.view) hand.new }
         ensures refusals { AreRefusals refusals.old hand.old.view → AreRefusals refusals.new hand.new.view }
     {
-        hand.is_plain();
         let word = usize::from(node_word(node));
         let new = writing_word(hand.number);
         let found = self.step_resolved(hand, effect, word, WordStep::Take(new));
-        hand.is_plain();
-        note_refused(refusals, own, wanted, node, found)
+        note_refused(refusals, held, node, found)
     }
 
     /// Takes the first write node, with which the effect enters the view. A take that is refused is tried again.
@@ -61,25 +60,22 @@ impl<'a, A: Action> SharedWords<'a, A> {
         rt: &R,
         hand: &mut Hand,
         refusals: &mut Refusals,
-        own: &LoadedPlayer,
-        wanted: &NodeQueue,
+        held: &Held,
         effect: &Effect,
         node: u8,
     )
-        requires own { IsOwn A.meaning self.now hand.old }
+        requires own { IsOwnHand A.meaning self.now hand.old }
         requires at { hand.old.view.point ≡ Resolving }
         requires effect { effect.now ≡ effect_loaded (fixed_in A.meaning self.now) hand.old.view }
         requires next { first (nodes_written (fixed_in A.meaning self.now) hand.old.view effect.now) ≡ Some node }
-        requires own_is { own.now ≡ hand.old.view.own }
-        requires wanted_is { wanted.now.items ≡ hand.old.view.wanted }
-        ensures own { IsOwn A.meaning self.now hand.new }
+        requires held { AreHeldFor (fixed_in A.meaning self.now) held.now hand.old.view }
+        ensures own { IsOwnHand A.meaning self.now hand.new }
         ensures tried { HasTried hand.old
             (view_after_claim (fixed_in A.meaning self.now) effect.now node hand.old.view) hand.new }
         ensures refusals { AreRefusals refusals.old hand.old.view → AreRefusals refusals.new hand.new.view }
     {
-        hand.is_plain();
         for _ in rt.forever() {
-            if self.try_first(hand, refusals, own, wanted, effect, node) {
+            if self.try_first(hand, refusals, held, effect, node) {
                 return;
             }
             thread::yield_now();
@@ -93,22 +89,19 @@ impl<'a, A: Action> SharedWords<'a, A> {
         rt: &R,
         hand: &mut Hand,
         refusals: &mut Refusals,
-        own: &LoadedPlayer,
-        wanted: &NodeQueue,
+        held: &Held,
         node: u8,
     )
-        requires own { IsOwn A.meaning self.now hand.old }
+        requires own { IsOwnHand A.meaning self.now hand.old }
         requires at { hand.old.view.point
             ≡ Claiming (nodes_held hand.old.view.point) (node ∷ claims_left hand.old.view.point) }
-        requires own_is { own.now ≡ hand.old.view.own }
-        requires wanted_is { wanted.now.items ≡ hand.old.view.wanted }
-        ensures own { IsOwn A.meaning self.now hand.new }
+        requires held { AreHeldFor (fixed_in A.meaning self.now) held.now hand.old.view }
+        ensures own { IsOwnHand A.meaning self.now hand.new }
         ensures tried { HasTried hand.old (view_after_take node hand.old.view) hand.new }
         ensures refusals { AreRefusals refusals.old hand.old.view → AreRefusals refusals.new hand.new.view }
     {
-        hand.is_plain();
         let new = writing_word(hand.number);
-        self.take_node(rt, hand, refusals, own, wanted, node, new);
+        self.take_node(rt, hand, refusals, held, node, new);
     }
 
     /// Takes the write nodes of the effect, each tried again until it is served. With the first the effect enters the
@@ -118,28 +111,25 @@ impl<'a, A: Action> SharedWords<'a, A> {
         rt: &R,
         hand: &mut Hand,
         refusals: &mut Refusals,
-        own: &LoadedPlayer,
-        wanted: &NodeQueue,
+        held: &Held,
         effect: &Effect,
         nodes: &[u8],
     )
-        requires own { IsOwn A.meaning self.now hand.old }
+        requires own { IsOwnHand A.meaning self.now hand.old }
         requires at { hand.old.view.point ≡ Resolving }
         requires effect { effect.now ≡ effect_loaded (fixed_in A.meaning self.now) hand.old.view }
         requires nodes { nodes.now ≡ nodes_written (fixed_in A.meaning self.now) hand.old.view effect.now }
-        requires own_is { own.now ≡ hand.old.view.own }
-        requires wanted_is { wanted.now.items ≡ hand.old.view.wanted }
-        ensures own { IsOwn A.meaning self.now hand.new }
+        requires held { AreHeldFor (fixed_in A.meaning self.now) held.now hand.old.view }
+        ensures own { IsOwnHand A.meaning self.now hand.new }
         ensures tried { HasTried hand.old (view_with_claims (fixed_in A.meaning self.now) effect.now hand.old.view) hand.new }
         ensures refusals { AreRefusals refusals.old hand.old.view → AreRefusals refusals.new hand.new.view }
     {
-        hand.is_plain();
         if nodes.is_empty() {
             return;
         }
-        self.claim_first(rt, hand, refusals, own, wanted, effect, nodes[0]);
+        self.claim_first(rt, hand, refusals, held, effect, nodes[0]);
         for i in 1..nodes.len() {
-            self.claim_next(rt, hand, refusals, own, wanted, nodes[i]);
+            self.claim_next(rt, hand, refusals, held, nodes[i]);
         }
     }
 }

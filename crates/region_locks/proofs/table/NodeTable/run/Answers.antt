@@ -6,11 +6,18 @@ use Rattle.entity_recs.specs.Commands.{command_of}
 use Rattle.core_steps.specs.Reads.{View}
 use Rattle.core_seats.specs.Refusals.{AreRefusals, last_of}
 use Rattle.core_seats.specs.Seats.{view_of}
+use Rattle.ruled_words.specs.Hands.{plain_pass}
 use Rattle.ruled_words.specs.Passes.{PassView, TableView, IsPassOf, fixed_in}
 use Rattle.region_locks.specs.Pursuits.{item_of}
 use Rattle.region_locks.proofs.Following.{near_room_for}
-use Rattle.region_locks.proofs.PassRuns.{seat_after, pass_ran}
+use Rattle.region_locks.proofs.PassRuns.{seat_after, hand_own, pass_ran}
 use Rattle.region_locks.proofs.table.NodeTable.run.Goals as goal
+
+pub run_hand-entry-requires-clause-own : goal.run_hand-entry-requires-clause-own
+run_hand-entry-requires-clause-own g c κs within =
+    subst (λ (t : TableView _). IsPassOf (fixed_in g.A.Action.meaning t) (length t.rooms) t.table (plain_pass c.pass.inside.hand)) (sym c.self.view_is)
+    (hand_own (fixed_in g.A.Action.meaning c.args.self.now) (length c.args.self.now.rooms) c.args.self.now.table c.args.pass.now c.pass.inside.hand c.pass.inside.mirror c.pass.inside.effect
+    c.pass.view_is c.pass.invariant.mirrors c.requires.own c.requires.free)
 
 pub run_hand-entry-requires-clause-room : goal.run_hand-entry-requires-clause-room
 run_hand-entry-requires-clause-room g c κs within =
@@ -52,7 +59,8 @@ returns g c =
       log = (view_of c.forget.new.self).log ++ item_of (command_of c.args.cmd) e ∷ [];
       seen = suc e.place;
     }) c.same_entry.ensures) in
-    pass_ran (fixed_in g.A.Action.meaning c.args.self.now) (length c.args.self.now.rooms) c.args.self.now.table c.args.pass.now inside.hand c.run_hand-entry.new.hand inside.mirror c.keep.new.self inside.effect (command_of c.args.cmd) c.run_hand-entry.result
-    c.pass.view_is c.pass.invariant.mirrors c.is_plain.ensures c.requires.own c.requires.free c.run_hand-entry.ensures.moved
-    (subst (λ (t : TableView _). IsPassOf (fixed_in g.A.Action.meaning t) (length t.rooms) t.table c.run_hand-entry.new.hand) c.self.view_is c.run_hand-entry.ensures.own)
+    pass_ran (fixed_in g.A.Action.meaning c.args.self.now) (length c.args.self.now.rooms) c.args.self.now.table c.args.pass.now inside.hand inside.mirror inside.effect
+    c.pass.view_is c.pass.invariant.mirrors c.requires.own c.requires.free
+    c.run_hand-entry.new.hand c.keep.new.self (command_of c.args.cmd) c.run_hand-entry.result c.run_hand-entry.ensures.moved
+    (subst (λ (t : TableView _). IsPassOf (fixed_in g.A.Action.meaning t) (length t.rooms) t.table c.run_hand-entry.new.hand) c.self.view_is c.run_hand-entry.ensures.own.pass)
     (ap (λ (o : Option Cmd). option_map command_of o) (c.keep.ensures.given ∙ c.forget.ensures.given)) (c.keep.ensures.quits ∙ c.forget.ensures.quits) follows

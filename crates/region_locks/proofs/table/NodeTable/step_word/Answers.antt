@@ -54,17 +54,11 @@ returns-clause-counted g c =
     rw (← c.self.view_is, ← c.pass.view_is) c.step_beside-found.ensures.gone in
     gone.counted
 
-pub returns-clause-held : goal.returns-clause-held
-returns-clause-held g c =
+pub returns-clause-node : goal.returns-clause-node
+returns-clause-node g c =
     let gone : HasGone (fixed_in g.A.Action.meaning c.args.self.now) (length c.args.self.now.rooms) c.args.pass.now c.step_beside-found.result c.step_beside-found.new.hand =
     rw (← c.self.view_is, ← c.pass.view_is) c.step_beside-found.ensures.gone in
-    gone.held
-
-pub returns-clause-reached : goal.returns-clause-reached
-returns-clause-reached g c =
-    let gone : HasGone (fixed_in g.A.Action.meaning c.args.self.now) (length c.args.self.now.rooms) c.args.pass.now c.step_beside-found.result c.step_beside-found.new.hand =
-    rw (← c.self.view_is, ← c.pass.view_is) c.step_beside-found.ensures.gone in
-    gone.reached
+    record { held = gone.held; reached = gone.reached }
 
 pub returns-clause-seen : goal.returns-clause-seen
 returns-clause-seen g c =

@@ -39,8 +39,8 @@ returns-else-found-eq0-clause-err g c =
       c.step_word-found.ensures.pass,
       holder,
       other_holder (fixed_in g.A.Action.meaning c.args.self.now) (length c.args.self.now.rooms) c.args.pass.now.number c.args.node found c.holder_in.result.number c.holder_in.result.leaves
-          c.requires.own.sound_sight.sound.depth (c.step_word-found.ensures.held c.args.node (taken_next _ _ c.requires.next) holder.is_held) holder,
-      c.step_word-found.ensures.reached c.args.node (taken_next _ _ c.requires.next),
+          c.requires.own.sound_sight.sound.depth (c.step_word-found.ensures.node.held c.args.node (taken_next _ _ c.requires.next) holder.is_held) holder,
+      c.step_word-found.ensures.node.reached c.args.node (taken_next _ _ c.requires.next),
     )
 
 pub returns-else-found-eq0-clause-may_quit : goal.returns-else-found-eq0-clause-may_quit

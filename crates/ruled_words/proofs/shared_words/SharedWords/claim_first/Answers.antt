@@ -3,12 +3,13 @@ use Rattle.core_steps.specs.Points.{Resolving}
 use Rattle.core_steps.specs.Reads.{View, effect_loaded}
 use Rattle.core_steps.specs.Steps.{first, view_after_claim}
 use Rattle.ruled_words.specs.Passes.{fixed_in}
+use Rattle.ruled_words.specs.Straight.{AreHeldFor}
 use Rattle.ruled_words.specs.Writing.{nodes_written}
 use Rattle.ruled_words.proofs.Claims.{holds_still, tries_none, tries_on, tried_where, tried_not}
 use Rattle.ruled_words.proofs.shared_words.SharedWords.claim_first.Goals as goal
 
 pub loop-init : goal.loop-init
-loop-init g c = (tt, tt, tries_none (fixed_in g.A.Action.meaning c.args.self.now) (length c.args.self.now.rooms) c.args.self.now.table c.args.hand.now c.requires.own c.is_plain.ensures, λ are. are)
+loop-init g c = (tt, tt, tries_none (fixed_in g.A.Action.meaning c.args.self.now) (length c.args.self.now.rooms) c.args.self.now.table c.args.hand.now c.requires.own, λ are. are)
 
 pub try_first-requires-clause-own : goal.try_first-requires-clause-own
 try_first-requires-clause-own g c κs within = c.loop.invariant.2.own
@@ -25,13 +26,9 @@ pub try_first-requires-clause-next : goal.try_first-requires-clause-next
 try_first-requires-clause-next g c κs within =
     holds_still (fixed_in g.A.Action.meaning c.args.self.now) (length c.args.self.now.rooms) c.args.self.now.table c.args.hand.now c.args.hand.now.view c.loop.hand c.loop.invariant.2 (λ (v : View). first (nodes_written (fixed_in g.A.Action.meaning c.args.self.now) v c.args.effect.now) ≡ Some c.args.node) c.requires.next
 
-pub try_first-requires-clause-own_is : goal.try_first-requires-clause-own_is
-try_first-requires-clause-own_is g c κs within =
-    holds_still (fixed_in g.A.Action.meaning c.args.self.now) (length c.args.self.now.rooms) c.args.self.now.table c.args.hand.now c.args.hand.now.view c.loop.hand c.loop.invariant.2 (λ (v : View). c.args.own.now ≡ v.own) c.requires.own_is
-
-pub try_first-requires-clause-wanted_is : goal.try_first-requires-clause-wanted_is
-try_first-requires-clause-wanted_is g c κs within =
-    holds_still (fixed_in g.A.Action.meaning c.args.self.now) (length c.args.self.now.rooms) c.args.self.now.table c.args.hand.now c.args.hand.now.view c.loop.hand c.loop.invariant.2 (λ (v : View). c.args.wanted.now.items ≡ v.wanted) c.requires.wanted_is
+pub try_first-requires-clause-held : goal.try_first-requires-clause-held
+try_first-requires-clause-held g c κs within =
+    holds_still (fixed_in g.A.Action.meaning c.args.self.now) (length c.args.self.now.rooms) c.args.self.now.table c.args.hand.now c.args.hand.now.view c.loop.hand c.loop.invariant.2 (AreHeldFor (fixed_in g.A.Action.meaning c.args.self.now) c.args.held.now) c.requires.held
 
 pub returns-then-try_first-clause-own : goal.returns-then-try_first-clause-own
 returns-then-try_first-clause-own g c = c.try_first.ensures.own

@@ -9,13 +9,13 @@ step_hand-requires-clause-comes g c κs within = given_there _ _ c.requires.next
 
 pub step_hand-requires-clause-index : goal.step_hand-requires-clause-index
 step_hand-requires-clause-index g c κs within =
-    c.from.ensures ∙ c.node_word.ensures ∙ sym (gives_next (fixed_in g.A.Action.meaning c.args.self.now) (length c.args.self.now.rooms) c.args.self.now.table c.args.hand.now c.args.node c.requires.own c.requires.next).index
+    c.from.ensures ∙ c.node_word.ensures ∙ sym (gives_next (fixed_in g.A.Action.meaning c.args.self.now) (length c.args.self.now.rooms) c.args.self.now.table c.args.hand.now c.args.node c.requires.own.pass c.requires.next).index
 
 pub step_hand-requires-clause-left : goal.step_hand-requires-clause-left
-step_hand-requires-clause-left g c κs within = (gives_next (fixed_in g.A.Action.meaning c.args.self.now) (length c.args.self.now.rooms) c.args.self.now.table c.args.hand.now c.args.node c.requires.own c.requires.next).left
+step_hand-requires-clause-left g c κs within = (gives_next (fixed_in g.A.Action.meaning c.args.self.now) (length c.args.self.now.rooms) c.args.self.now.table c.args.hand.now c.args.node c.requires.own.pass c.requires.next).left
 
 pub step_hand-requires-clause-may : goal.step_hand-requires-clause-may
-step_hand-requires-clause-may g c κs within = (gives_next (fixed_in g.A.Action.meaning c.args.self.now) (length c.args.self.now.rooms) c.args.self.now.table c.args.hand.now c.args.node c.requires.own c.requires.next).blind
+step_hand-requires-clause-may g c κs within = (gives_next (fixed_in g.A.Action.meaning c.args.self.now) (length c.args.self.now.rooms) c.args.self.now.table c.args.hand.now c.args.node c.requires.own.pass c.requires.next).blind
 
 pub returns-clause-pass : goal.returns-clause-pass
 returns-clause-pass g c =

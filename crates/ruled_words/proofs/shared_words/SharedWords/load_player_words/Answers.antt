@@ -6,6 +6,9 @@ use Rattle.ruled_words.specs.Loads.{IsLoading}
 use Rattle.ruled_words.proofs.Loads.{load_next, loads_there, loading_none, loading_more}
 use Rattle.ruled_words.proofs.shared_words.SharedWords.load_player_words.Goals as goal
 
+pub step_hand-requires-clause-own : goal.step_hand-requires-clause-own
+step_hand-requires-clause-own g c κs within = record { pass = c.loop-k.invariant.0.own; plain = c.loop-k.invariant.2 }
+
 pub step_hand-requires-clause-comes : goal.step_hand-requires-clause-comes
 step_hand-requires-clause-comes g c κs within =
     let is = c.loop-k.invariant in
@@ -27,8 +30,9 @@ step_hand-requires-clause-left g c κs within =
 pub loop-k-init : goal.loop-k-init
 loop-k-init g c = (
   subst (IsLoading (fixed_in g.A.Action.meaning c.args.self.now) (length c.args.self.now.rooms) c.args.self.now.table c.args.hand.now c.args.hand.now c.args.slot) (sym c.new-words.ensures)
-      (loading_none (fixed_in g.A.Action.meaning c.args.self.now) (length c.args.self.now.rooms) c.args.self.now.table c.args.hand.now c.args.slot c.requires.own c.requires.next),
+      (loading_none (fixed_in g.A.Action.meaning c.args.self.now) (length c.args.self.now.rooms) c.args.self.now.table c.args.hand.now c.args.slot c.requires.own.pass c.requires.next),
   ap (λ (xs : List ℕ). length xs) c.new-words.ensures,
+  c.requires.own.plain,
 )
 
 pub loop-k-preserved : goal.loop-k-preserved
@@ -37,7 +41,11 @@ loop-k-preserved g c =
     let words = c.loop-k.words.items in
     let below : length words < 6 = omega (arith, is.1, c.loop-k-test.true) in
     let more : IsLoading (fixed_in g.A.Action.meaning c.args.self.now) (length c.args.self.now.rooms) c.args.self.now.table c.args.hand.now c.step_hand.new.hand c.args.slot (words ++ c.step_hand.result ∷ []) =
-    loading_more _ _ _ _ c.loop-k.hand c.step_hand.new.hand c.args.slot words c.step_hand.result is.0 below c.step_hand.ensures.pass c.step_hand.ensures.own c.step_hand.ensures.taken in (
+    loading_more _ _ _ _ c.loop-k.hand c.step_hand.new.hand c.args.slot words c.step_hand.result is.0 below c.step_hand.ensures.pass c.step_hand.ensures.own.pass c.step_hand.ensures.taken in (
       subst (IsLoading (fixed_in g.A.Action.meaning c.args.self.now) (length c.args.self.now.rooms) c.args.self.now.table c.args.hand.now c.step_hand.new.hand c.args.slot) (sym c.push.ensures.items) more,
       ap (λ (xs : List ℕ). length xs) c.push.ensures.items ∙ longer words c.step_hand.result ∙ ap (λ (n : ℕ). n + 1) is.1,
+      c.step_hand.ensures.own.plain,
     )
+
+pub returns-clause-own : goal.returns-clause-own
+returns-clause-own g c = record { pass = c.loop-k.invariant.0.own; plain = c.loop-k.invariant.2 }

@@ -1,8 +1,9 @@
 use Rattle.std.proofs.Common.{◌≡◌, length}
 use Rattle.ruled_words.specs.Passes.{fixed_in}
+use Rattle.ruled_words.specs.Hands.{IsPlain}
 use Rattle.ruled_words.specs.Loads.{IsLoading}
 use Rattle.ruled_words.proofs.shared_words.SharedWords.load_player_words.Given as goal
 
 abbrev pub invariant-loop-k : goal.invariant-loop-k
 invariant-loop-k g l =
-    IsLoading (fixed_in g.A.Action.meaning l.self) (length l.self.rooms) l.self.table l.fn.hand l.hand l.slot l.words.items × (length l.words.items ≡ l.k)
+    IsLoading (fixed_in g.A.Action.meaning l.self) (length l.self.rooms) l.self.table l.fn.hand l.hand l.slot l.words.items × (length l.words.items ≡ l.k) × IsPlain l.hand

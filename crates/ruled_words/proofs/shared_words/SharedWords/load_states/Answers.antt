@@ -9,7 +9,7 @@ use Rattle.ruled_words.proofs.StateSteps.{put_last, AreSensed, sensed_none, sens
 use Rattle.ruled_words.proofs.shared_words.SharedWords.load_states.Goals as goal
 
 pub next_thing-requires : goal.next_thing-requires
-next_thing-requires g c = c.thing_bits-bits.ensures c.map_things-things.result.now c.map_things-things.ensures
+next_thing-requires g c = c.thing_bits-bits.ensures c.map_things-things.result.now c.map_things-things.ensures.things
 
 pub load_thing-requires-clause-at : goal.load_thing-requires-clause-at
 load_thing-requires-clause-at g c κs within =
@@ -19,15 +19,15 @@ load_thing-requires-clause-at g c κs within =
     let start = c.args.hand.now in
     let before = c.args.near.now.items in
     let next = c.in-Some.ensures in
-    let is = sensed_until F things region c.map_things-things.ensures c.ids_rise.ensures start before c.loop-place.hand c.loop-place.near.items c.loop-place.at c.in-Some.place next.least (omega (arith, next.within)) c.loop-place.invariant.sensed next.apart in
-    sensed_at F things region c.map_things-things.ensures c.ids_rise.ensures start before c.loop-place.hand c.loop-place.near.items c.in-Some.place _ next.within is (next.touches _)
+    let is = sensed_until F things region c.map_things-things.ensures.things c.map_things-things.ensures.rise start before c.loop-place.hand c.loop-place.near.items c.loop-place.at c.in-Some.place next.least (omega (arith, next.within)) c.loop-place.invariant.sensed next.apart in
+    sensed_at F things region c.map_things-things.ensures.things c.map_things-things.ensures.rise start before c.loop-place.hand c.loop-place.near.items c.in-Some.place _ next.within is (next.touches _)
 
 pub loop-place-init : goal.loop-place-init
 loop-place-init g c =
     let F = fixed_in g.A.Action.meaning c.args.self.now in
     record {
       own = c.requires.own;
-      sensed = sensed_none F c.map_things-things.result.now c.args.region.now c.map_things-things.ensures c.ids_rise.ensures c.args.hand.now c.args.near.now.items c.is_plain.ensures
+      sensed = sensed_none F c.map_things-things.result.now c.args.region.now c.map_things-things.ensures.things c.map_things-things.ensures.rise c.args.hand.now c.args.near.now.items c.requires.own.plain
           (c.requires.at ∙ ap (λ (region : List Bounds). sensing (things_in F region)) (sym c.requires.region_is)) c.requires.few;
       room = refl;
       within = omega arith;
@@ -43,10 +43,10 @@ loop-place-preserved g c =
     let place = c.in-Some.place in
     let next = c.in-Some.ensures in
     let here = next.within in
-    let is = sensed_until F things region c.map_things-things.ensures c.ids_rise.ensures start before c.loop-place.hand c.loop-place.near.items c.loop-place.at place next.least (omega (arith, here)) c.loop-place.invariant.sensed next.apart in
+    let is = sensed_until F things region c.map_things-things.ensures.things c.map_things-things.ensures.rise start before c.loop-place.hand c.loop-place.near.items c.loop-place.at place next.least (omega (arith, here)) c.loop-place.invariant.sensed next.apart in
     let loaded = c.load_thing.ensures in
-    let one = sensed_one F things region c.map_things-things.ensures c.ids_rise.ensures start before c.loop-place.hand c.loop-place.near.items place _ here is (next.touches _) c.load_thing.new.hand c.load_thing.result.state loaded.view in
-    let room = sensed_room F things region c.map_things-things.ensures c.ids_rise.ensures start before c.loop-place.hand c.loop-place.near.items place c.load_thing.result here is
+    let one = sensed_one F things region c.map_things-things.ensures.things c.map_things-things.ensures.rise start before c.loop-place.hand c.loop-place.near.items place _ here is (next.touches _) c.load_thing.new.hand c.load_thing.result.state loaded.view in
+    let room = sensed_room F things region c.map_things-things.ensures.things c.map_things-things.ensures.rise start before c.loop-place.hand c.loop-place.near.items place c.load_thing.result here is
     c.loop-place.near.room (subst (λ (n : ℕ). 64 + length F.start.ids ≤ n) (sym c.loop-place.invariant.room) c.requires.room) in
     let pushed = put_last c.push.result c.loop-place.near c.push.new.self c.load_thing.result c.push.ensures.room c.push.ensures.records room in
     let near_is = ap (λ (l : NearView). l.items) pushed ∙ ap (λ (r : Rec). c.loop-place.near.items ++ r ∷ []) loaded.thing in
@@ -68,12 +68,12 @@ pub returns-clause-view : goal.returns-clause-view
 returns-clause-view g c =
     let F = fixed_in g.A.Action.meaning c.args.self.now in
     let things = c.map_things-things.result.now in
-    let is = sensed_until F things c.args.region.now c.map_things-things.ensures c.ids_rise.ensures c.args.hand.now c.args.near.now.items c.loop-place.hand c.loop-place.near.items c.loop-place.at (length things) c.loop-place.invariant.within (omega arith) c.loop-place.invariant.sensed c.in_default.ensures in
-    sensed_view F things c.args.region.now c.map_things-things.ensures c.ids_rise.ensures c.args.hand.now c.args.near.now.items c.loop-place.hand c.loop-place.near.items (length things) (omega arith) is
+    let is = sensed_until F things c.args.region.now c.map_things-things.ensures.things c.map_things-things.ensures.rise c.args.hand.now c.args.near.now.items c.loop-place.hand c.loop-place.near.items c.loop-place.at (length things) c.loop-place.invariant.within (omega arith) c.loop-place.invariant.sensed c.in_default.ensures in
+    sensed_view F things c.args.region.now c.map_things-things.ensures.things c.map_things-things.ensures.rise c.args.hand.now c.args.near.now.items c.loop-place.hand c.loop-place.near.items (length things) (omega arith) is
 
 pub returns-clause-near : goal.returns-clause-near
 returns-clause-near g c =
     let F = fixed_in g.A.Action.meaning c.args.self.now in
     let things = c.map_things-things.result.now in
-    let is = sensed_until F things c.args.region.now c.map_things-things.ensures c.ids_rise.ensures c.args.hand.now c.args.near.now.items c.loop-place.hand c.loop-place.near.items c.loop-place.at (length things) c.loop-place.invariant.within (omega arith) c.loop-place.invariant.sensed c.in_default.ensures in
-    sensed_near F things c.args.region.now c.map_things-things.ensures c.ids_rise.ensures c.args.hand.now c.args.near.now.items c.loop-place.hand c.loop-place.near.items (length things) (omega arith) is
+    let is = sensed_until F things c.args.region.now c.map_things-things.ensures.things c.map_things-things.ensures.rise c.args.hand.now c.args.near.now.items c.loop-place.hand c.loop-place.near.items c.loop-place.at (length things) c.loop-place.invariant.within (omega arith) c.loop-place.invariant.sensed c.in_default.ensures in
+    sensed_near F things c.args.region.now c.map_things-things.ensures.things c.map_things-things.ensures.rise c.args.hand.now c.args.near.now.items c.loop-place.hand c.loop-place.near.items (length things) (omega arith) is

@@ -35,7 +35,7 @@ loop-k-init g c =
     let F = fixed_in g.A.Action.meaning c.args.self.now in
     let words : c.push.new.self.items ≡ c.begin_hand.result ∷ [] = c.push.ensures.items ∙ ap (λ (xs : List ℕ). xs ++ c.begin_hand.result ∷ []) c.new-words.ensures in (
       c.begin_hand.ensures.own,
-      c.begin_hand.ensures.pass ∙ own_begun F c.args.hand.now (command_of c.args.cmd.now) c.begin_hand.result c.is_plain.ensures
+      c.begin_hand.ensures.pass ∙ own_begun F c.args.hand.now (command_of c.args.cmd.now) c.begin_hand.result
           ∙ ap (own_at F c.args.hand.now (command_of c.args.cmd.now)) (sym words),
       ap (λ (xs : List ℕ). length xs) words,
     )

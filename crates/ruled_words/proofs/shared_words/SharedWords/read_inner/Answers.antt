@@ -3,18 +3,20 @@ use Rattle.core_steps.specs.Nodes.{inner_nodes}
 use Rattle.core_steps.specs.Reads.{region_in}
 use Rattle.core_steps.specs.Steps.{visiting}
 use Rattle.ruled_words.specs.Passes.{PassView, fixed_in}
+use Rattle.ruled_words.specs.Straight.{AreHeldFor}
 use Rattle.ruled_words.proofs.BitWalks.{bits_first, bit_below}
 use Rattle.ruled_words.proofs.LeafWords.{inner_few}
 use Rattle.ruled_words.proofs.TriedTakes.{not_tried, tried_again}
-use Rattle.ruled_words.proofs.VisitedNodes.{inner_until, inner_list_is, inner_small, inner_start, inner_end, now_entering, inner_more, none_kept_yet, kept_after}
+use Rattle.ruled_words.proofs.VisitedNodes.{inner_until, inner_list_is, inner_of_command, inner_small, inner_start, inner_end, now_entering, inner_more, none_kept_yet, kept_after}
 use Rattle.ruled_words.proofs.shared_words.SharedWords.read_inner.Goals as goal
 
 pub loop-rest-init : goal.loop-rest-init
 loop-rest-init g c =
+    let F = fixed_in g.A.Action.meaning c.args.self.now in
     let same = c.from-rest.ensures in
-    let inner = inner_list_is (fixed_in g.A.Action.meaning c.args.self.now) (region_in (fixed_in g.A.Action.meaning c.args.self.now) c.args.hand.now.view.cmd c.args.hand.now.view.own) _ c.args.inner refl c.requires.inner in (
+    let inner = inner_list_is F (region_in F c.args.hand.now.view.cmd c.args.hand.now.view.own) _ c.args.held.now.inner refl (inner_of_command F c.args.held.now c.args.hand.now.view c.requires.held) in (
       c.requires.own,
-      inner_start (fixed_in g.A.Action.meaning c.args.self.now) c.args.hand.now c.args.inner c.is_plain.ensures (c.requires.at ∙ ap (visiting (fixed_in g.A.Action.meaning c.args.self.now) c.args.hand.now.view) inner)
+      inner_start (fixed_in g.A.Action.meaning c.args.self.now) c.args.hand.now c.args.held.now.inner c.requires.own.plain (c.requires.at ∙ ap (visiting (fixed_in g.A.Action.meaning c.args.self.now) c.args.hand.now.view) inner)
           ∙ ap (λ (n : ℕ). inner_until (fixed_in g.A.Action.meaning c.args.self.now) c.args.hand.now n c.args.hand.now) (sym c.from-rest.ensures),
       λ seen kept. none_kept_yet seen c.args.by_slot.now c.args.hand.now.view.others kept,
       omega (arith, same),
@@ -26,34 +28,28 @@ pub visit_inner-seen-requires-clause-inner : goal.visit_inner-seen-requires-clau
 visit_inner-seen-requires-clause-inner g c κs within =
     let F = fixed_in g.A.Action.meaning c.args.self.now in
     let few = c.loop-rest.invariant.3 in
-    let small = inner_small F _ c.args.inner c.loop-rest.rest c.requires.inner few in
+    let small = inner_small F _ c.args.held.now.inner c.loop-rest.rest (inner_of_command F c.args.held.now c.args.hand.now.view c.requires.held) few in
     bit_below (inner_nodes F) c.loop-rest.rest c.lowest_bit-node.result small c.lowest_bit-node.ensures.there
 
 pub visit_inner-seen-requires-clause-at : goal.visit_inner-seen-requires-clause-at
 visit_inner-seen-requires-clause-at g c κs within =
     let F = fixed_in g.A.Action.meaning c.args.self.now in
     let few = c.loop-rest.invariant.3 in
-    let small = inner_small F _ c.args.inner c.loop-rest.rest c.requires.inner few in
+    let small = inner_small F _ c.args.held.now.inner c.loop-rest.rest (inner_of_command F c.args.held.now c.args.hand.now.view c.requires.held) few in
     let below = bit_below (inner_nodes F) c.loop-rest.rest c.lowest_bit-node.result small c.lowest_bit-node.ensures.there in
-    let first = bits_first (inner_nodes F) c.loop-rest.rest c.without_bit-rest.result c.lowest_bit-node.result below (inner_few F c.requires.own.sound_sight.sound.depth) c.lowest_bit-node.ensures.there c.lowest_bit-node.ensures.first c.without_bit-rest.ensures.bits in
+    let first = bits_first (inner_nodes F) c.loop-rest.rest c.without_bit-rest.result c.lowest_bit-node.result below (inner_few F c.requires.own.pass.sound_sight.sound.depth) c.lowest_bit-node.ensures.there c.lowest_bit-node.ensures.first c.without_bit-rest.ensures.bits in
     now_entering F c.args.hand.now c.loop-rest.rest c.without_bit-rest.result c.lowest_bit-node.result below first c.loop-rest.hand c.loop-rest.invariant.1
 
-pub visit_inner-seen-requires-clause-own_is : goal.visit_inner-seen-requires-clause-own_is
-visit_inner-seen-requires-clause-own_is g c κs within = c.requires.own_is ∙ sym (ap (λ (q : PassView). q.view.own) c.loop-rest.invariant.1)
-
-pub visit_inner-seen-requires-clause-wanted_is : goal.visit_inner-seen-requires-clause-wanted_is
-visit_inner-seen-requires-clause-wanted_is g c κs within = c.requires.wanted_is ∙ sym (ap (λ (q : PassView). q.view.wanted) c.loop-rest.invariant.1)
-
-pub visit_inner-seen-requires-clause-slot : goal.visit_inner-seen-requires-clause-slot
-visit_inner-seen-requires-clause-slot g c κs within = c.requires.slot ∙ sym (ap (λ (q : PassView). q.view.cmd.slot) c.loop-rest.invariant.1)
+pub visit_inner-seen-requires-clause-held : goal.visit_inner-seen-requires-clause-held
+visit_inner-seen-requires-clause-held g c κs within = subst (λ (q : PassView). AreHeldFor (fixed_in g.A.Action.meaning c.args.self.now) c.args.held.now q.view) (sym c.loop-rest.invariant.1) c.requires.held
 
 pub loop-rest-preserved : goal.loop-rest-preserved
 loop-rest-preserved g c =
     let F = fixed_in g.A.Action.meaning c.args.self.now in
     let few = c.loop-rest.invariant.3 in
-    let small = inner_small F _ c.args.inner c.loop-rest.rest c.requires.inner few in
+    let small = inner_small F _ c.args.held.now.inner c.loop-rest.rest (inner_of_command F c.args.held.now c.args.hand.now.view c.requires.held) few in
     let below = bit_below (inner_nodes F) c.loop-rest.rest c.lowest_bit-node.result small c.lowest_bit-node.ensures.there in
-    let first = bits_first (inner_nodes F) c.loop-rest.rest c.without_bit-rest.result c.lowest_bit-node.result below (inner_few F c.requires.own.sound_sight.sound.depth) c.lowest_bit-node.ensures.there c.lowest_bit-node.ensures.first c.without_bit-rest.ensures.bits in
+    let first = bits_first (inner_nodes F) c.loop-rest.rest c.without_bit-rest.result c.lowest_bit-node.result below (inner_few F c.requires.own.pass.sound_sight.sound.depth) c.lowest_bit-node.ensures.there c.lowest_bit-node.ensures.first c.without_bit-rest.ensures.bits in
     let less = c.without_bit-rest.ensures.less c.lowest_bit-node.ensures.there in (
       c.visit_inner-seen.ensures.own,
       inner_more F c.args.hand.now c.loop-rest.rest c.without_bit-rest.result c.lowest_bit-node.result below first c.loop-rest.hand c.loop-rest.invariant.1 c.visit_inner-seen.new.hand c.visit_inner-seen.ensures.view,

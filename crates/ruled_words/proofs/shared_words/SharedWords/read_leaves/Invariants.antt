@@ -1,13 +1,14 @@
 use Rattle.std.proofs.Common.{◌≡◌, ◌≤◌, ℕ, bit_or}
-use Rattle.ruled_words.specs.Passes.{IsOwn, fixed_in}
+use Rattle.ruled_words.specs.Hands.{IsOwnHand}
+use Rattle.ruled_words.specs.Passes.{fixed_in}
 use Rattle.ruled_words.specs.Straight.{HasKept}
 use Rattle.ruled_words.proofs.VisitedNodes.{leaves_until}
 use Rattle.ruled_words.proofs.shared_words.SharedWords.read_leaves.Given as goal
 
 abbrev pub invariant-loop-rest : goal.invariant-loop-rest
 invariant-loop-rest g l =
-    IsOwn g.A.Action.meaning l.self l.hand × (l.hand ≡ leaves_until (fixed_in g.A.Action.meaning l.self) l.fn.hand l.rest l.hand)
-    × ((seen : ℕ) → HasKept seen l.fn.by_slot l.fn.hand.view.others → HasKept (bit_or seen l.seen) l.by_slot l.hand.view.others) × (l.rest ≤ l.leaves)
+    IsOwnHand g.A.Action.meaning l.self l.hand × (l.hand ≡ leaves_until (fixed_in g.A.Action.meaning l.self) l.fn.hand l.rest l.hand)
+    × ((seen : ℕ) → HasKept seen l.fn.by_slot l.fn.hand.view.others → HasKept (bit_or seen l.seen) l.by_slot l.hand.view.others) × (l.rest ≤ l.held.leaves)
 
 abbrev pub decreases-loop-rest : goal.decreases-loop-rest
 decreases-loop-rest g l = l.rest

@@ -11,23 +11,23 @@ use Rattle.ruled_words.proofs.shared_words.SharedWords.read_under.Goals as goal
 
 pub without_bit-players-requires : goal.without_bit-players-requires
 without_bit-players-requires g c =
-    subst (λ (n : ℕ). n < 64) (sym c.requires.slot) (c.requires.own.sound_sight.sound.hand (ap (λ (q : Point). is_busy (stage_of q)) c.requires.at)).command.slot
+    subst (λ (n : ℕ). n < 64) (sym c.requires.slot) (c.requires.own.pass.sound_sight.sound.hand (ap (λ (q : Point). is_busy (stage_of q)) c.requires.at)).command.slot
 
 pub step_hand-list-requires-clause-comes : goal.step_hand-list-requires-clause-comes
 step_hand-list-requires-clause-comes g c κs within =
     let F = fixed_in g.A.Action.meaning c.args.self.now in
-    list_there (next_of_pass F c.args.hand.now) c.args.node (list_comes F c.args.hand.now c.args.node c.is_plain.ensures c.requires.at)
+    list_there (next_of_pass F c.args.hand.now) c.args.node (list_comes F c.args.hand.now c.args.node c.requires.own.plain c.requires.at)
 
 pub step_hand-list-requires-clause-index : goal.step_hand-list-requires-clause-index
 step_hand-list-requires-clause-index g c κs within =
     let F = fixed_in g.A.Action.meaning c.args.self.now in
     c.from.ensures ∙ c.list_word.ensures
-    ∙ sym (lists_next F (length c.args.self.now.rooms) c.args.self.now.table c.args.hand.now c.args.node c.requires.own (list_comes F c.args.hand.now c.args.node c.is_plain.ensures c.requires.at)).index
+    ∙ sym (lists_next F (length c.args.self.now.rooms) c.args.self.now.table c.args.hand.now c.args.node c.requires.own.pass (list_comes F c.args.hand.now c.args.node c.requires.own.plain c.requires.at)).index
 
 pub step_hand-list-requires-clause-left : goal.step_hand-list-requires-clause-left
 step_hand-list-requires-clause-left g c κs within =
     let F = fixed_in g.A.Action.meaning c.args.self.now in
-    (lists_next F (length c.args.self.now.rooms) c.args.self.now.table c.args.hand.now c.args.node c.requires.own (list_comes F c.args.hand.now c.args.node c.is_plain.ensures c.requires.at)).left
+    (lists_next F (length c.args.self.now.rooms) c.args.self.now.table c.args.hand.now c.args.node c.requires.own.pass (list_comes F c.args.hand.now c.args.node c.requires.own.plain c.requires.at)).left
 
 pub loop-rest-init : goal.loop-rest-init
 loop-rest-init g c =
@@ -35,9 +35,9 @@ loop-rest-init g c =
     let p = c.args.hand.now in
     let new = c.step_hand-list.new.hand in
     let left = c.without_bit-players.result in
-    let start = under_start F p c.args.node c.is_plain.ensures c.requires.at new c.step_hand-list.result c.step_hand-list.ensures.pass in
+    let start = under_start F p c.args.node c.requires.own.plain c.requires.at new c.step_hand-list.result c.step_hand-list.ensures.pass in
     let players = ap (λ (n : ℕ). players_in c.step_hand-list.result n) (sym c.requires.slot) ∙ players_are c.step_hand-list.result c.args.slot left c.without_bit-players.ensures.bits in
-    let others = same_others F p c.args.node c.is_plain.ensures c.requires.at new c.step_hand-list.result c.step_hand-list.ensures.pass in (
+    let others = same_others F p c.args.node c.requires.own.plain c.requires.at new c.step_hand-list.result c.step_hand-list.ensures.pass in (
       c.step_hand-list.ensures.own,
       start ∙ ap (λ (xs : List ℕ). under_until F p c.args.node xs new) players,
       subst (λ (os : List PlayerRead). AreKept left left c.args.by_slot.now c.args.by_slot.now p.view.others os) (sym others) (kept_start left c.args.by_slot.now p.view.others),

@@ -4,7 +4,7 @@ use Rattle.ruled_words.proofs.GivenBack.{released_none, release_next, released_m
 use Rattle.ruled_words.proofs.shared_words.SharedWords.release_nodes.Goals as goal
 
 pub loop-node-init : goal.loop-node-init
-loop-node-init g c = released_none (fixed_in g.A.Action.meaning c.args.self.now) (length c.args.self.now.rooms) c.args.self.now.table c.args.hand.now c.args.nodes.now c.requires.own c.is_plain.ensures c.requires.at
+loop-node-init g c = released_none (fixed_in g.A.Action.meaning c.args.self.now) (length c.args.self.now.rooms) c.args.self.now.table c.args.hand.now c.args.nodes.now c.requires.own c.requires.at
 
 pub give_on-requires-clause-own : goal.give_on-requires-clause-own
 give_on-requires-clause-own g c κs within = c.loop-node.invariant.own

@@ -5,7 +5,7 @@ use Rattle.ruled_words.proofs.shared_words.SharedWords.return_leaves.Given as go
 
 abbrev pub invariant-loop-rest : goal.invariant-loop-rest
 invariant-loop-rest g l =
-    HasReturned (fixed_in g.A.Action.meaning l.self) (length l.self.rooms) l.self.table l.fn.hand l.hand (leaves_in (fixed_in g.A.Action.meaning l.self) l.rest) × (l.rest ≤ l.leaves)
+    HasReturned (fixed_in g.A.Action.meaning l.self) (length l.self.rooms) l.self.table l.fn.hand l.hand (leaves_in (fixed_in g.A.Action.meaning l.self) l.rest) × (l.rest ≤ l.held.leaves)
 
 abbrev pub decreases-loop-rest : goal.decreases-loop-rest
 decreases-loop-rest g l = l.rest

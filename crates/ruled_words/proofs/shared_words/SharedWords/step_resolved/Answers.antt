@@ -16,17 +16,11 @@ returns-clause-own g c =
     rw (← c.self.view_is) c.resolve_on.ensures.gone in
     kept_own (fixed_in g.A.Action.meaning c.args.self.now) (length c.args.self.now.rooms) c.args.self.now.table (pass_keeping c.args.hand.now c.args.effect.now) c.resolve_on.new.self c.resolve_on.result c.requires.own c.requires.comes gone c.resolve_on.ensures.plain.1
 
-pub returns-clause-held : goal.returns-clause-held
-returns-clause-held g c =
+pub returns-clause-node : goal.returns-clause-node
+returns-clause-node g c =
     let gone : HasGone (fixed_in g.A.Action.meaning c.args.self.now) (length c.args.self.now.rooms) (pass_keeping c.args.hand.now c.args.effect.now) c.resolve_on.result c.resolve_on.new.self =
     rw (← c.self.view_is) c.resolve_on.ensures.gone in
-    gone.held
-
-pub returns-clause-reached : goal.returns-clause-reached
-returns-clause-reached g c =
-    let gone : HasGone (fixed_in g.A.Action.meaning c.args.self.now) (length c.args.self.now.rooms) (pass_keeping c.args.hand.now c.args.effect.now) c.resolve_on.result c.resolve_on.new.self =
-    rw (← c.self.view_is) c.resolve_on.ensures.gone in
-    gone.reached
+    record { held = gone.held; reached = gone.reached }
 
 pub returns-clause-seen : goal.returns-clause-seen
 returns-clause-seen g c =

@@ -5,7 +5,7 @@ use Rattle.ruled_words.proofs.StoresMade.{stored_none, state_next, state_made, s
 use Rattle.ruled_words.proofs.shared_words.SharedWords.store_states.Goals as goal
 
 pub loop-new_state-init : goal.loop-new_state-init
-loop-new_state-init g c = stored_none _ _ _ _ _ c.requires.own c.is_plain.ensures c.requires.next
+loop-new_state-init g c = stored_none _ _ _ _ _ c.requires.own c.requires.next
 
 pub store_state-requires-clause-own : goal.store_state-requires-clause-own
 store_state-requires-clause-own g c κs within = c.loop-new_state.invariant.own

@@ -8,7 +8,7 @@ use Rattle.ruled_words.proofs.StoresMade.{stored_none, word_next, word_made, wor
 use Rattle.ruled_words.proofs.shared_words.SharedWords.store_words.Goals as goal
 
 pub loop-k-init : goal.loop-k-init
-loop-k-init g c = stored_none _ _ _ _ _ c.requires.own c.is_plain.ensures c.requires.next
+loop-k-init g c = stored_none _ _ _ _ _ c.requires.own c.requires.next
 
 pub store_body-requires-clause-own : goal.store_body-requires-clause-own
 store_body-requires-clause-own g c κs within = c.loop-k.invariant.own

@@ -1,7 +1,7 @@
-use Rattle.std.proofs.Common.{◌≡◌, ◌∙◌, ap, sym, length, take, drop, arith}
+use Rattle.std.proofs.Common.{◌∙◌, ap, sym, length, take, drop, arith}
 use Rattle.core_steps.specs.Steps.{first}
-use Rattle.core_steps.specs.Reads.{View}
 use Rattle.ruled_words.specs.Passes.{fixed_in}
+use Rattle.ruled_words.specs.Straight.{AreHeldFor}
 use Rattle.ruled_words.proofs.Claims.{holds_still, first_node, no_nodes, claims_begun, claim_comes, claim_taken, claims_made, claims_none, claiming_view}
 use Rattle.ruled_words.proofs.shared_words.SharedWords.take_write_nodes.Goals as goal
 
@@ -20,13 +20,9 @@ claim_next-requires-clause-own g c κs within = c.loop-i.invariant.0.own
 pub claim_next-requires-clause-at : goal.claim_next-requires-clause-at
 claim_next-requires-clause-at g c κs within = claim_comes (fixed_in g.A.Action.meaning c.args.self.now) (length c.args.self.now.rooms) c.args.self.now.table c.args.hand.now c.args.effect.now c.args.nodes.now c.loop-i.hand c.loop-i.i c.loop-i-test.true c.loop-i.invariant.0
 
-pub claim_next-requires-clause-own_is : goal.claim_next-requires-clause-own_is
-claim_next-requires-clause-own_is g c κs within =
-    holds_still (fixed_in g.A.Action.meaning c.args.self.now) (length c.args.self.now.rooms) c.args.self.now.table c.args.hand.now (claiming_view c.args.hand.now.view c.args.effect.now (take c.loop-i.i c.args.nodes.now) (drop c.loop-i.i c.args.nodes.now)) c.loop-i.hand c.loop-i.invariant.0 (λ (v : View). c.args.own.now ≡ v.own) c.requires.own_is
-
-pub claim_next-requires-clause-wanted_is : goal.claim_next-requires-clause-wanted_is
-claim_next-requires-clause-wanted_is g c κs within =
-    holds_still (fixed_in g.A.Action.meaning c.args.self.now) (length c.args.self.now.rooms) c.args.self.now.table c.args.hand.now (claiming_view c.args.hand.now.view c.args.effect.now (take c.loop-i.i c.args.nodes.now) (drop c.loop-i.i c.args.nodes.now)) c.loop-i.hand c.loop-i.invariant.0 (λ (v : View). c.args.wanted.now.items ≡ v.wanted) c.requires.wanted_is
+pub claim_next-requires-clause-held : goal.claim_next-requires-clause-held
+claim_next-requires-clause-held g c κs within =
+    holds_still (fixed_in g.A.Action.meaning c.args.self.now) (length c.args.self.now.rooms) c.args.self.now.table c.args.hand.now (claiming_view c.args.hand.now.view c.args.effect.now (take c.loop-i.i c.args.nodes.now) (drop c.loop-i.i c.args.nodes.now)) c.loop-i.hand c.loop-i.invariant.0 (AreHeldFor (fixed_in g.A.Action.meaning c.args.self.now) c.args.held.now) c.requires.held
 
 pub loop-i-preserved : goal.loop-i-preserved
 loop-i-preserved g c = (
@@ -45,4 +41,4 @@ returns-clause-refusals g c = c.loop-i.invariant.1
 
 pub returns-then-is_empty-clause-tried : goal.returns-then-is_empty-clause-tried
 returns-then-is_empty-clause-tried g c =
-    claims_none (fixed_in g.A.Action.meaning c.args.self.now) (length c.args.self.now.rooms) c.args.self.now.table c.args.hand.now c.args.effect.now c.requires.own c.is_plain.ensures c.requires.at (sym c.requires.nodes ∙ no_nodes c.args.nodes.now (sym c.is_empty.ensures ∙ c.if-is_empty.true))
+    claims_none (fixed_in g.A.Action.meaning c.args.self.now) (length c.args.self.now.rooms) c.args.self.now.table c.args.hand.now c.args.effect.now c.requires.own c.requires.at (sym c.requires.nodes ∙ no_nodes c.args.nodes.now (sym c.is_empty.ensures ∙ c.if-is_empty.true))

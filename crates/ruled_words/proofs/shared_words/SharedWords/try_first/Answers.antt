@@ -9,30 +9,33 @@ use Rattle.ruled_words.proofs.Claims.{dropped_own, first_is, first_left, first_t
 use Rattle.ruled_words.proofs.shared_words.SharedWords.try_first.Goals as goal
 
 pub step_resolved-found-requires-clause-own : goal.step_resolved-found-requires-clause-own
-step_resolved-found-requires-clause-own g c κs within = resolved_own (fixed_in g.A.Action.meaning c.args.self.now) (length c.args.self.now.rooms) c.args.self.now.table c.args.hand.now c.args.effect.now c.requires.own c.requires.at c.requires.effect
+step_resolved-found-requires-clause-own g c κs within = resolved_own (fixed_in g.A.Action.meaning c.args.self.now) (length c.args.self.now.rooms) c.args.self.now.table c.args.hand.now c.args.effect.now c.requires.own.pass c.requires.at c.requires.effect
 
 pub step_resolved-found-requires-clause-comes : goal.step_resolved-found-requires-clause-comes
-step_resolved-found-requires-clause-comes g c κs within = comes_next (fixed_in g.A.Action.meaning c.args.self.now) (pass_keeping c.args.hand.now c.args.effect.now) _ (first_is (fixed_in g.A.Action.meaning c.args.self.now) c.args.hand.now c.args.effect.now c.args.node c.is_plain.ensures c.requires.at c.requires.next)
+step_resolved-found-requires-clause-comes g c κs within = comes_next (fixed_in g.A.Action.meaning c.args.self.now) (pass_keeping c.args.hand.now c.args.effect.now) _ (first_is (fixed_in g.A.Action.meaning c.args.self.now) c.args.hand.now c.args.effect.now c.args.node c.requires.own.plain c.requires.at c.requires.next)
 
 pub step_resolved-found-requires-clause-index : goal.step_resolved-found-requires-clause-index
 step_resolved-found-requires-clause-index g c κs within =
     c.from-word.ensures ∙ c.node_word.ensures
-    ∙ index_next (fixed_in g.A.Action.meaning c.args.self.now) (pass_keeping c.args.hand.now c.args.effect.now) _ (first_is (fixed_in g.A.Action.meaning c.args.self.now) c.args.hand.now c.args.effect.now c.args.node c.is_plain.ensures c.requires.at c.requires.next) c.args.hand.now.view
+    ∙ index_next (fixed_in g.A.Action.meaning c.args.self.now) (pass_keeping c.args.hand.now c.args.effect.now) _ (first_is (fixed_in g.A.Action.meaning c.args.self.now) c.args.hand.now c.args.effect.now c.args.node c.requires.own.plain c.requires.at c.requires.next) c.args.hand.now.view
 
 pub step_resolved-found-requires-clause-left : goal.step_resolved-found-requires-clause-left
 step_resolved-found-requires-clause-left g c κs within found =
-    first_left (fixed_in g.A.Action.meaning c.args.self.now) c.args.hand.now c.args.effect.now c.args.node c.is_plain.ensures c.requires.at c.requires.next found
+    first_left (fixed_in g.A.Action.meaning c.args.self.now) c.args.hand.now c.args.effect.now c.args.node c.requires.own.plain c.requires.at c.requires.next found
     ∙ ap (λ (w : ℕ). if found == 0 then w else found) (ap (λ (q : PassView). suc (q.number + NODE_HOLDERS)) (sym c.hand.view_is) ∙ sym c.writing_word-new.ensures)
 
 pub returns-clause-own : goal.returns-clause-own
-returns-clause-own g c = dropped_own (fixed_in g.A.Action.meaning c.args.self.now) (length c.args.self.now.rooms) c.args.self.now.table c.step_resolved-found.new.hand _ c.step_resolved-found.ensures.own c.is_plain-2.ensures.effect
+returns-clause-own g c = record {
+  pass = dropped_own (fixed_in g.A.Action.meaning c.args.self.now) (length c.args.self.now.rooms) c.args.self.now.table c.step_resolved-found.new.hand _ c.step_resolved-found.ensures.own c.step_resolved-found.ensures.plain.effect;
+  plain = c.step_resolved-found.ensures.plain;
+}
 
 pub returns-clause-tried : goal.returns-clause-tried
 returns-clause-tried g c =
-    first_tried (fixed_in g.A.Action.meaning c.args.self.now) c.args.hand.now c.args.effect.now c.args.node c.is_plain.ensures c.requires.at c.requires.next c.step_resolved-found.new.hand c.step_resolved-found.result _ c.note_refused.ensures.served c.is_plain-2.ensures c.step_resolved-found.ensures.pass
+    first_tried (fixed_in g.A.Action.meaning c.args.self.now) c.args.hand.now c.args.effect.now c.args.node c.requires.own.plain c.requires.at c.requires.next c.step_resolved-found.new.hand c.step_resolved-found.result _ c.note_refused.ensures.served c.step_resolved-found.ensures.plain c.step_resolved-found.ensures.pass
 
 pub returns-clause-refusals : goal.returns-clause-refusals
 returns-clause-refusals g c are =
     refusals_found c.note_refused.new.refusals c.args.hand.now.view (view_after_claim (fixed_in g.A.Action.meaning c.args.self.now) c.args.effect.now c.args.node c.args.hand.now.view) c.step_resolved-found.new.hand.view c.args.node c.step_resolved-found.result
-    (first_view (fixed_in g.A.Action.meaning c.args.self.now) c.args.hand.now c.args.effect.now c.args.node c.is_plain.ensures c.requires.at c.requires.next c.step_resolved-found.new.hand c.step_resolved-found.result c.is_plain-2.ensures c.step_resolved-found.ensures.pass)
-    refl refl (c.note_refused.ensures.noted c.args.hand.now.view c.requires.own_is c.requires.wanted_is are)
+    (first_view (fixed_in g.A.Action.meaning c.args.self.now) c.args.hand.now c.args.effect.now c.args.node c.requires.own.plain c.requires.at c.requires.next c.step_resolved-found.new.hand c.step_resolved-found.result c.step_resolved-found.ensures.plain c.step_resolved-found.ensures.pass)
+    refl refl (c.note_refused.ensures.noted c.args.hand.now.view c.requires.held.own_is c.requires.held.wanted_is are)

@@ -11,7 +11,7 @@ step_hand-found-requires-clause-comes g c κs within = taken_there _ _ c.require
 
 pub step_hand-found-requires-clause-index : goal.step_hand-found-requires-clause-index
 step_hand-found-requires-clause-index g c κs within =
-    c.from.ensures ∙ c.node_word.ensures ∙ sym (taken_index (fixed_in g.A.Action.meaning c.args.self.now) c.args.hand.now c.args.node _ (takes_next _ _ _ _ _ c.requires.own c.requires.next))
+    c.from.ensures ∙ c.node_word.ensures ∙ sym (taken_index (fixed_in g.A.Action.meaning c.args.self.now) c.args.hand.now c.args.node _ (takes_next _ _ _ _ _ c.requires.own.pass c.requires.next))
 
 pub returns-clause-tried : goal.returns-clause-tried
 returns-clause-tried g c =
@@ -23,4 +23,4 @@ pub returns-clause-refusals : goal.returns-clause-refusals
 returns-clause-refusals g c are =
     let F = fixed_in g.A.Action.meaning c.args.self.now in
     found_noted F c.note_refused.new.refusals c.args.hand.now.view c.step_hand-found.new.hand.view (the_next (next_of_pass F c.args.hand.now)) c.args.node c.step_hand-found.result (taken_next _ _ c.requires.next)
-    (ap (λ (q : PassView). q.view) c.step_hand-found.ensures.pass) (c.note_refused.ensures.noted c.args.hand.now.view c.requires.own_is c.requires.wanted_is are)
+    (ap (λ (q : PassView). q.view) c.step_hand-found.ensures.pass) (c.note_refused.ensures.noted c.args.hand.now.view c.requires.held.own_is c.requires.held.wanted_is are)

@@ -6,49 +6,49 @@ use Rattle.ruled_words.proofs.VisitedNodes.{enter_next, enter_word, inner_entere
 use Rattle.ruled_words.proofs.shared_words.SharedWords.visit_inner.Goals as goal
 
 pub take_node-requires-clause-next : goal.take_node-requires-clause-next
-take_node-requires-clause-next g c κs within = enter_next (fixed_in g.A.Action.meaning c.args.self.now) c.args.hand.now c.args.node c.requires.inner c.is_plain.ensures c.requires.at
+take_node-requires-clause-next g c κs within = enter_next (fixed_in g.A.Action.meaning c.args.self.now) c.args.hand.now c.args.node c.requires.inner c.requires.own.plain c.requires.at
 
 pub take_node-requires-clause-word : goal.take_node-requires-clause-word
 take_node-requires-clause-word g c κs within found =
     let number : c.hand.inside.number ≡ c.args.hand.now.number = ap (λ (q : PassView). q.number) c.hand.view_is in
     let one = c.from-new.ensures in
-    enter_word (fixed_in g.A.Action.meaning c.args.self.now) c.args.hand.now c.args.node c.requires.inner c.is_plain.ensures c.requires.at _ (omega (arith, number, one)) found
+    enter_word (fixed_in g.A.Action.meaning c.args.self.now) c.args.hand.now c.args.node c.requires.inner c.requires.own.plain c.requires.at _ (omega (arith, number, one)) found
 
 pub read_under-players-requires-clause-at : goal.read_under-players-requires-clause-at
 read_under-players-requires-clause-at g c κs within =
-    inner_entered (fixed_in g.A.Action.meaning c.args.self.now) c.args.hand.now c.args.node c.requires.inner c.is_plain.ensures c.requires.at c.take_node.new.hand c.take_node.ensures.view
+    inner_entered (fixed_in g.A.Action.meaning c.args.self.now) c.args.hand.now c.args.node c.requires.inner c.requires.own.plain c.requires.at c.take_node.new.hand c.take_node.ensures.view
 
 pub read_under-players-requires-clause-slot : goal.read_under-players-requires-clause-slot
 read_under-players-requires-clause-slot g c κs within =
-    c.requires.slot ∙ sym (entered_slot (fixed_in g.A.Action.meaning c.args.self.now) c.args.hand.now c.args.node c.requires.inner c.is_plain.ensures c.requires.at c.take_node.new.hand c.take_node.ensures.view)
+    c.requires.held.slot_is ∙ sym (entered_slot (fixed_in g.A.Action.meaning c.args.self.now) c.args.hand.now c.args.node c.requires.inner c.requires.own.plain c.requires.at c.take_node.new.hand c.take_node.ensures.view)
 
 pub leave-requires-clause-at : goal.leave-requires-clause-at
 leave-requires-clause-at g c κs within =
-    inner_leaving (fixed_in g.A.Action.meaning c.args.self.now) c.args.hand.now c.args.node c.requires.inner c.is_plain.ensures c.requires.at c.take_node.new.hand c.take_node.ensures.view
+    inner_leaving (fixed_in g.A.Action.meaning c.args.self.now) c.args.hand.now c.args.node c.requires.inner c.requires.own.plain c.requires.at c.take_node.new.hand c.take_node.ensures.view
     c.read_under-players.new.hand c.read_under-players.ensures.view
 
 pub returns-clause-view : goal.returns-clause-view
 returns-clause-view g c =
-    inner_read (fixed_in g.A.Action.meaning c.args.self.now) c.args.hand.now c.args.node c.requires.inner c.is_plain.ensures c.requires.at c.take_node.new.hand c.take_node.ensures.view
+    inner_read (fixed_in g.A.Action.meaning c.args.self.now) c.args.hand.now c.args.node c.requires.inner c.requires.own.plain c.requires.at c.take_node.new.hand c.take_node.ensures.view
     c.read_under-players.new.hand c.read_under-players.ensures.view c.leave.new.hand c.leave.ensures.view
 
 pub returns-clause-tried : goal.returns-clause-tried
 returns-clause-tried g c =
     subst (IsTriedOn c.args.hand.now.tally)
-    (sym (inner_tally (fixed_in g.A.Action.meaning c.args.self.now) c.args.hand.now c.args.node c.requires.inner c.is_plain.ensures c.requires.at c.take_node.new.hand c.take_node.ensures.view
+    (sym (inner_tally (fixed_in g.A.Action.meaning c.args.self.now) c.args.hand.now c.args.node c.requires.inner c.requires.own.plain c.requires.at c.take_node.new.hand c.take_node.ensures.view
     c.read_under-players.new.hand c.read_under-players.ensures.view c.leave.new.hand c.leave.ensures.view))
     c.take_node.ensures.tried
 
 pub returns-clause-refusals : goal.returns-clause-refusals
 returns-clause-refusals g c here =
-    inner_refusals (fixed_in g.A.Action.meaning c.args.self.now) c.args.hand.now c.args.node c.requires.inner c.is_plain.ensures c.requires.at c.take_node.new.hand c.take_node.ensures.view
+    inner_refusals (fixed_in g.A.Action.meaning c.args.self.now) c.args.hand.now c.args.node c.requires.inner c.requires.own.plain c.requires.at c.take_node.new.hand c.take_node.ensures.view
     c.read_under-players.new.hand c.read_under-players.ensures.view c.leave.new.hand c.leave.ensures.view c.take_node.new.refusals (c.take_node.ensures.refusals here)
 
 pub returns-clause-kept : goal.returns-clause-kept
 returns-clause-kept g c seen kept =
     subst (λ (os : List PlayerRead). HasKept (bit_or seen c.read_under-players.result) c.read_under-players.new.by_slot os)
-    (sym (inner_others (fixed_in g.A.Action.meaning c.args.self.now) c.args.hand.now c.args.node c.requires.inner c.is_plain.ensures c.requires.at c.take_node.new.hand c.take_node.ensures.view
+    (sym (inner_others (fixed_in g.A.Action.meaning c.args.self.now) c.args.hand.now c.args.node c.requires.inner c.requires.own.plain c.requires.at c.take_node.new.hand c.take_node.ensures.view
     c.read_under-players.new.hand c.read_under-players.ensures.view c.leave.new.hand c.leave.ensures.view))
     (c.read_under-players.ensures.kept seen
     (subst (λ (os : List PlayerRead). HasKept seen c.args.by_slot.now os)
-    (sym (entered_others (fixed_in g.A.Action.meaning c.args.self.now) c.args.hand.now c.args.node c.requires.inner c.is_plain.ensures c.requires.at c.take_node.new.hand c.take_node.ensures.view)) kept))
+    (sym (entered_others (fixed_in g.A.Action.meaning c.args.self.now) c.args.hand.now c.args.node c.requires.inner c.requires.own.plain c.requires.at c.take_node.new.hand c.take_node.ensures.view)) kept))
