@@ -10,7 +10,8 @@ use Rattle.demo_lines.specs.declared.event.Event.TheVariants.{Frame, From, End}
 use Rattle.out_text.specs.OutLines.{OutLine, EndLine}
 use Rattle.out_text.specs.FrameLines.{given_lines, lines_with}
 use Rattle.out_text.proofs.Players.{given-is}
-use Rattle.playback.specs.Playbacks.{Course, PlaybackView, IsGiven, IsGivenIf, ArePacketsIf, Closes, GoesOn, shown_by}
+use Rattle.frame_phases.specs.FramesRun.{IsGiven, shown_by}
+use Rattle.playback.specs.Playbacks.{Course, PlaybackView, IsGivenIf, ArePacketsIf, Closes, GoesOn}
 use Rattle.arena_engine.specs.declared.feeding.Feeding.{Feeding}
 use Rattle.arena_engine.specs.Feedings.{Last, arranged, with_packets}
 use Rattle.arena_engine.specs.Games.{GameView, Plays, closing_with, ClosesFed, PutsOpenInOrder, PutsInOrderFor, closed_lines, closing_lines, event_lines, due_lines, is_end, newest, newest_journal, newest_order}

@@ -33,7 +33,8 @@ use Rattle.out_text.proofs.Growing.{GoesOnWith, collected-append}
 use Rattle.out_text.proofs.Agreement.{Agrees, AgreesAt, NoneYet, OneOpen, AllClosed, agrees_lines}
 use Rattle.out_text.proofs.Runs.{state_played-push, right-append, right-push, in_order-append, in_order-push, text_of-append}
 use Rattle.out_text.proofs.Fronts.{AreRun, IsPlayed, none_are_run}
-use Rattle.playback.specs.Playbacks.{RunsFrame, MayClose, IsReady}
+use Rattle.frame_phases.specs.FramesRun.{RunsFrame}
+use Rattle.playback.specs.Playbacks.{MayClose, IsReady}
 use Rattle.arena_engine.specs.declared.feeding.Feeding.{Feeding}
 use Rattle.arena_engine.specs.Feedings.{Last, AreFed, IsLastOf, arranged, with_packets, fed_lines, fed_text}
 use Rattle.arena_engine.specs.Games.{GameView, new_game, Closing, newest, ClosesFed, Advances, closing_lines, event_lines, is_end}

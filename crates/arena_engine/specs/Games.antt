@@ -11,7 +11,8 @@ use Rattle.demo_lines.specs.declared.event.Event.{Event}
 use Rattle.demo_lines.specs.declared.event.Event.TheVariants.{Frame, From, End}
 use Rattle.out_text.specs.OutLines.{OutLine, EndLine}
 use Rattle.out_text.specs.FrameLines.{given_lines, lines_with}
-use Rattle.playback.specs.Playbacks.{Course, PlaybackView, new_course, RunsFrame}
+use Rattle.frame_phases.specs.FramesRun.{RunsFrame}
+use Rattle.playback.specs.Playbacks.{Course, PlaybackView, new_course}
 use Rattle.arena_engine.specs.declared.feeding.Feeding.{Feeding}
 use Rattle.arena_engine.specs.Feedings.{Last, no_last, arranged, IsOrderOf, with_packets}
 

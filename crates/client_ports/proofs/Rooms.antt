@@ -1,5 +1,5 @@
 -- The room of the lists: an arrival gives one join or one refusal or at most 3 moves, and a frame at most 512 moves.
-use Rattle.std.proofs.Common.{◌≡◌, ◌⊎◌, inl, inr, ℕ, ◌+◌, ◌*◌, ◌<◌, ◌≤◌, List, [], ◌∷◌, length, map as map_list, Result, Ok, Err, IfOk, refl, sym, ap, subst, arith, length-append}
+use Rattle.std.proofs.Common.{◌≡◌, ◌⊎◌, inl, inr, ℕ, ◌+◌, ◌*◌, ◌<◌, ◌≤◌, List, [], ◌∷◌, length, map as map_list, Result, Ok, Err, IfOk, refl, sym, ap, ◌∙◌, subst, arith, length-append}
 use Rattle.std.specs.Prelude.{min}
 use Rattle.std.proofs.Math.Nat.{le-min, min-le_left, min-le_right}
 use Rattle.std.proofs.lemmas.List.{length-map, length_push}
@@ -23,7 +23,8 @@ use Rattle.client_ports.specs.Laws.{IsRefused, IsJoined, IsLeave, IsMove}
 use Rattle.client_ports.proofs.Facts.{one_answer}
 use Rattle.client_ports.proofs.NewMoves.{read-few}
 use Rattle.client_ports.proofs.Counts.{Gives, gives}
-use Rattle.client_ports.proofs.Short.{moves_are_few}
+use Rattle.client_ports.proofs.Short.{few_if_clients}
+use Rattle.client_ports.proofs.Staying.{clients-through}
 
 -- after so many arrivals there are at most as many joins and refusals, and at most 3 moves of each
 pub record HasRoomLeft (arrivals : ℕ) (l : Lists) : Type 0 where
@@ -91,10 +92,6 @@ moves_fit n all map frame r place a more room whole left below fits e few =
     let both : length next.lists.moves ≤ most_moves all = le-min three most in
     omega (arith, both, fits.moves)
 
--- all of a frame's moves are at most 512
-pub all_few : (map : MapView) (frame : ℕ) (state : State) (arrivals : List Arrival) → AreClients state.clients → length (received map frame state arrivals).lists.moves ≤ 512
-all_few map frame state arrivals are = omega (arith, moves_are_few map frame state arrivals are)
-
 -- an accepted packet's new commands have room
 pub new_fit : (to : Result LiveSlot Refusal) (frame : ℕ) (steps : List MovePacket) (r : Receiving) (place most : ℕ) → length (after_move to frame steps r place).lists.moves ≤ most
     → IfOk to (λ l. length r.lists.moves + length (new_among l.client.last steps) ≤ most)
@@ -103,12 +100,16 @@ new_fit (Ok live) frame steps r place most fits =
     let new = new_among live.client.last steps in
     omega (arith, fits, length-append r.lists.moves (map_list (command_in frame live.slot) new), length-map new (command_in frame live.slot))
 
--- also where the lists before them are said to be empty
-pub whole_few : (map : MapView) (frame : ℕ) (state : State) (lists : Lists) (arrivals : List Arrival) → AreClients state.clients → lists ≡ no_lists
+-- all of a frame's moves are at most 512, where clients are apart after some of its packets
+pub whole_few : (map : MapView) (frame : ℕ) (state : State) (lists : Lists) (arrivals : List Arrival) (r : Receiving) (place : ℕ) (rest : List Arrival) → AreClients r.state.clients
+    → after_arrivals map frame r place rest ≡ after_arrivals map frame (receiving_of state lists) 0 arrivals → lists ≡ no_lists
     → length (after_arrivals map frame (receiving_of state lists) 0 arrivals).lists.moves ≤ 512
 unfolding received
-whole_few map frame state lists arrivals are empty =
-    subst (λ (l : Lists). length (after_arrivals map frame (receiving_of state l) 0 arrivals).lists.moves ≤ 512) (sym empty) (all_few map frame state arrivals are)
+whole_few map frame state lists arrivals r place rest are left empty =
+    let whole : Lists → Receiving = λ l. after_arrivals map frame (receiving_of state l) 0 arrivals in
+    let all : after_arrivals map frame r place rest ≡ received map frame state arrivals = left ∙ ap whole empty in
+    let after : AreClients (received map frame state arrivals).state.clients = subst (λ (q : Receiving). AreClients q.state.clients) all (clients-through map frame r place rest are) in
+    subst (λ (l : Lists). length (whole l).lists.moves ≤ 512) (sym empty) (omega (arith, few_if_clients map frame state arrivals after))
 
 -- one arrival more, in the words of what a call changes
 pub left_next : (n : ℕ) (map : MapView) (frame : ℕ) (r next : Receiving) (place : ℕ) (a : Arrival) → next ≡ after_arrival map frame r place a → HasRoomLeft n r.lists → HasRoomLeft (n + 1) next.lists

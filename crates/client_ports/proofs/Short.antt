@@ -81,16 +81,20 @@ within [] slot some = cc
 within (x ∷ clients) zero some = omega arith
 within (x ∷ clients) (suc slot) some = let rest = within clients slot some in omega (arith, rest)
 
--- a frame has at most 8 accepted moves for each of 64 slots
-pub moves_are_few : (map : MapView) (frame : ℕ) (state : State) (arrivals : List Arrival) → AreClients state.clients
+-- a frame has at most 8 accepted moves for each of 64 slots, where no client has more than 8 after it
+pub few_if_clients : (map : MapView) (frame : ℕ) (state : State) (arrivals : List Arrival) → AreClients (received map frame state arrivals).state.clients
     → length (received map frame state arrivals).lists.moves ≤ 8 * 64
-moves_are_few map frame state arrivals are =
+few_if_clients map frame state arrivals after =
     let next = received map frame state arrivals in
     let clients = next.state.clients in
-    let after : AreClients clients = clients_received map frame state arrivals are in
     let below : All (λ (c : Command). c.slot < 64) next.lists.moves =
     All-weaker (λ (c : Command). IsSome (client_at clients c.slot)) (λ (c : Command). c.slot < 64)
     (λ c live. omega (arith, within clients c.slot live, client_count clients after.slots)) next.lists.moves (movers_live map frame state arrivals) in
     let few = few-below 64 next.lists.moves (λ slot. few_moves map frame state arrivals slot after) in
     let all = all-below 64 next.lists.moves below in
     omega (arith, few, all)
+
+-- and so where none has more before it
+pub moves_are_few : (map : MapView) (frame : ℕ) (state : State) (arrivals : List Arrival) → AreClients state.clients
+    → length (received map frame state arrivals).lists.moves ≤ 8 * 64
+moves_are_few map frame state arrivals are = few_if_clients map frame state arrivals (clients_received map frame state arrivals are)

@@ -97,7 +97,7 @@ clients-after map before after (inr (inl j)) are =
     subst (λ (s : State). AreClients s.clients) (sym j.is) (clients-join before.clients j.port j.to.slot are (join-newcomer map before j.port j.to j.answer))
 clients-after map before after (inr (inr u)) are = subst (λ (s : State). AreClients s.clients) (sym u.is) (clients-update before.clients u.live are (u.may are))
 
-clients-through : (map : MapView) (frame : ℕ) (r : Receiving) (place : ℕ) (arrivals : List Arrival) → AreClients r.state.clients → AreClients (after_arrivals map frame r place arrivals).state.clients
+pub clients-through : (map : MapView) (frame : ℕ) (r : Receiving) (place : ℕ) (arrivals : List Arrival) → AreClients r.state.clients → AreClients (after_arrivals map frame r place arrivals).state.clients
 clients-through map frame r place [] are = are
 clients-through map frame r place (a ∷ more) are =
     let next = after_arrival map frame r place a in

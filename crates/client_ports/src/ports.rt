@@ -155,6 +155,7 @@ impl Ports {
     fn live_with(&self, port: u16) -> Option<LiveSlot>
         ensures value { result ≡ clients.live_with self.now port }
         ensures live { IfSome result (IsUpdate self.now) }
+        ensures apart { AreClients self.now }
     {
         let slot = self.slots.slot_of(port)?;
         let client = self.clients[usize::from(slot)]?;
@@ -173,6 +174,7 @@ impl Ports {
     pub(crate) fn move_answer(&self, port: u16, steps: &[MovePacket]) -> Result<LiveSlot, Refusal>
         ensures value { result ≡ answers.move_answer self.now port steps.now }
         ensures live { IfOk result (λ l. IsUpdate self.now (answers.with_new_moves l (new_among l.client.last steps.now))) }
+        ensures apart { AreClients self.now }
     {
         move_by(self.live_with(port), steps)
     }

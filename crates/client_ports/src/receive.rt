@@ -12,7 +12,7 @@ ghost use Rattle.client_ports.specs.States.{state_of, HaveSameLive, IsState};
 ghost use Rattle.client_ports.specs.Lists.{no_lists, with_moves, received_view, HasRoom, IsRoomFor};
 ghost use Rattle.client_ports.specs.NewMoves.{new_among, TakesItsTime};
 ghost use Rattle.client_ports.specs.FirstRefusals as answers;
-ghost use Rattle.client_ports.specs.Clients.{IsSlotFor};
+ghost use Rattle.client_ports.specs.Clients.{AreClients, IsSlotFor};
 ghost use Rattle.client_ports.specs.Linking.{IsWorldAfter, players_of};
 ghost use Rattle.client_ports.specs.Receiving as receiving;
 ghost use Rattle.client_ports.specs.Receiving.{receiving_of};
@@ -139,10 +139,11 @@ impl Ports {
         &mut self,
         map: &ArenaMap,
         world: &mut World,
-        place: u32,
+        place: usize,
         port: u16,
         out: &mut Received,
     )
+        requires place { place < out.old.room.refused }
         requires room { HasRoom out.old }
         requires state { IsState map.now (state_of self.old world.old.records) }
         ensures received { receiving_of (state_of self.new world.new.records) out.new.lists
@@ -164,8 +165,9 @@ impl Ports {
     }
 
     /// What a leave changes, at this place of the frame.
-    fn receive_leave(&mut self, place: u32, port: u16, out: &mut Received)
-        requires { HasRoom out.old }
+    fn receive_leave(&mut self, place: usize, port: u16, out: &mut Received)
+        requires place { place < out.old.room.refused }
+        requires room { HasRoom out.old }
         ensures received { (records : List (Option Rec)) → receiving_of (state_of self.new records) out.new.lists
             ≡ receiving.after_leave (answers.leave_answer self.old port) (receiving_of (state_of self.old records)
             out.old.lists) place }
@@ -184,15 +186,16 @@ impl Ports {
     fn receive_moves(
         &mut self,
         frame: u32,
-        place: u32,
+        place: usize,
         port: u16,
         steps: &[MovePacket],
         out: &mut Received,
     )
         requires steps { All TakesItsTime steps.now }
+        requires place { place < out.old.room.refused }
         requires room { HasRoom out.old }
-        requires moves { IfOk (answers.move_answer self.old port steps.now) (λ l. length out.old.lists.moves
-            + length (new_among l.client.last steps.now) ≤ out.old.room.moves) }
+        requires moves { AreClients self.old → IfOk (answers.move_answer self.old port steps.now)
+            (λ l. length out.old.lists.moves + length (new_among l.client.last steps.now) ≤ out.old.room.moves) }
         ensures received { (records : List (Option Rec)) → receiving_of (state_of self.new records) out.new.lists
             ≡ receiving.after_commands frame steps.now (receiving_of (state_of self.old records) out.old.lists) place
             port }
@@ -215,12 +218,13 @@ impl Ports {
         map: &ArenaMap,
         world: &mut World,
         frame: u32,
-        place: u32,
+        place: usize,
         arrival: &Arrival,
         out: &mut Received,
     )
+        requires place { place < out.old.room.refused }
         requires room { HasRoom out.old }
-        requires moves { length (receiving.after_arrival map.now frame (receiving_of
+        requires moves { AreClients self.old → length (receiving.after_arrival map.now frame (receiving_of
             (state_of self.old world.old.records) out.old.lists) place arrival.now).lists.moves ≤ out.old.room.moves }
         requires state { IsState map.now (state_of self.old world.old.records) }
         ensures received { receiving_of (state_of self.new world.new.records) out.new.lists
@@ -266,9 +270,6 @@ impl Ports {
         ensures live { HaveSameLive self.new world.new.records }
         ensures valid { IsValidWorld map.now world.new.records }
     {
-        // A place is below the room, and so is a u32; and no client has more than 8 moves, so 512 are enough for all.
-        let _room = out.room();
-        let _clients = self.clients();
         let mut place = 0;
         for arrival in arrivals {
             self.receive_one(map, world, frame, place, arrival, out);

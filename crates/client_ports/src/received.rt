@@ -123,10 +123,14 @@ impl Received {
     }
 
     /// Puts a refusal last.
-    pub(crate) fn refuse(&mut self, place: u32, why: Refusal)
-        requires { length self.old.lists.refused < self.old.room.refused }
+    pub(crate) fn refuse(&mut self, place: usize, why: Refusal)
+        requires place { place < self.old.room.refused }
+        requires room { length self.old.lists.refused < self.old.room.refused }
         ensures { self.new ≡ received_view (with_refusal self.old.lists place why) self.old.room }
     {
-        self.refused.push_reserved(Refused { place, why });
+        self.refused.push_reserved(Refused {
+            place: place as u32,
+            why,
+        });
     }
 }

@@ -18,6 +18,7 @@ use Rattle.client_ports.specs.Receiving.{Receiving}
 use Rattle.client_ports.specs.Finishing.{finished}
 use Rattle.frame_phases.specs.Servers.{ServerView, server_view, server_after, IsServer}
 use Rattle.frame_phases.specs.Finishes.{IsReceived, IsBegun, IsFinished}
+use Rattle.frame_phases.specs.Beginnings.{IsStartedFor}
 use Rattle.move_phase.specs.Starting.{StartedView, AreStarted}
 use Rattle.plain_server.specs.Replies.{slots_of, replies_of}
 use Rattle.world_tree.specs.Worlds.{WorldView}
@@ -66,6 +67,11 @@ begun_if_started (Ok s) action world got moves is_map is moves_are same started 
   moves = subst (λ (cs : List Command). AreStarted world cs s) moves_are started;
 }
 begun_if_started (Err e) action world got moves is_map is moves_are same started = tt
+
+-- its moves are started as was asked, where the memory was taken
+pub started_for : {E : Type 0} (r : Result StartedView E) (action : MapAction) (workers : ℕ) → IfOk r (λ s. s.action ≡ action) → IfOk r (λ s. s.workers ≡ workers) → IfOk r (IsStartedFor action workers)
+started_for (Ok s) action workers same as_many = record { action_is = same; workers_are = as_many }
+started_for (Err e) action workers same as_many = tt
 
 -- ---- a frame that is finished
 

@@ -17,6 +17,8 @@ pub use Rattle.move_journal.specs.Logs
 pub use Rattle.move_phase.specs.Serving
 pub use Rattle.move_phase.specs.Starting
 pub mod Servers
+pub mod FramesRun
+pub mod Beginnings
 pub mod Finishes
 pub mod Scores
 pub mod FrameOuts

@@ -1,15 +1,14 @@
-ghost use Rattle.arena_actions.specs.MapActions.{map_in, IsOfItsMap};
+ghost use Rattle.arena_actions.specs.MapActions.{map_in};
 ghost use Rattle.std.specs.Prelude.{◌≡◌, ◌+◌, ◌<◌, ◌≤◌, [], length, IfOk};
 ghost use Rattle.arena_map.specs.Maps.{IsMap};
 ghost use Rattle.client_ports.specs.States.{state_of};
-ghost use Rattle.client_ports.specs.Lists.{no_lists, room_for};
 ghost use Rattle.client_ports.specs.Receiving.{receiving_of};
 ghost use Rattle.plain_server.specs.RecordsById.{opening};
 ghost use Rattle.plain_server.specs.Frames.{received_in};
 ghost use Rattle.move_phase.specs.Serving.{AreWorkers};
 ghost use Rattle.packet_read.specs.declared.arrival.TheConstants.{MOST_ARRIVALS};
 ghost use Rattle.arena_map.specs.declared.limits.TheConstants.{MOST_FRAMES};
-ghost use Rattle.frame_phases.specs.Servers.{IsServer};
+ghost use Rattle.frame_phases.specs.Beginnings.{AreStatesOf, MayReceive, IsStartedFor, KeepsState};
 ghost use Rattle.frame_phases.specs.Finishes.{IsBegun, IsFinished};
 
 use crate::frame_out::FrameOut;
@@ -77,21 +76,15 @@ pub fn begin_frame<'a>(
 ) -> Result<StartedMoves<'a>, AllocError>
     requires few { length arrivals.now ≤ MOST_ARRIVALS }
     requires workers { AreWorkers workers }
-    requires of_its_map { IsOfItsMap action.now }
-    requires server { IsServer (map_in action.now) (state_of states.old.state.ports states.old.state.world.records) }
-    requires tree { states.old.next.world.tree ≡ states.old.state.world.tree }
-    requires empty { received.old.lists ≡ no_lists }
-    requires room { received.old.room ≡ room_for MOST_ARRIVALS }
+    requires states { AreStatesOf action.now states.old }
+    requires lists { MayReceive received.old }
     ensures begun { IfOk result (λ started. IsBegun started states.new.next.world
         (receiving_of (state_of states.new.next.ports states.new.next.world.records) received.new.lists)) }
     ensures received { receiving_of (state_of states.new.next.ports states.new.next.world.records) received.new.lists
         ≡ received_in (map_in action.now) states.old.frames
         (state_of states.old.state.ports states.old.state.world.records) arrivals.now }
-    ensures action { IfOk result (λ started. started.action ≡ action.now) }
-    ensures workers { IfOk result (λ started. started.workers ≡ workers) }
-    ensures state { states.new.state ≡ states.old.state }
-    ensures frames { states.new.frames ≡ states.old.frames }
-    ensures tree { states.new.next.world.tree ≡ states.new.state.world.tree }
+    ensures started { IfOk result (IsStartedFor action.now workers) }
+    ensures kept { KeepsState states.old states.new }
     ensures room { received.new.room ≡ received.old.room }
 {
     states.next.copy_from(&states.state);

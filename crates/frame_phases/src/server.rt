@@ -1,12 +1,8 @@
 ghost use Rattle.std.specs.Prelude.{◌≡◌, ◌<◌, ◌≤◌, length, OnOk, OnErr};
-ghost use Rattle.move_journal.specs.Merges.{IsInOrder};
-ghost use Rattle.plain_server.specs.Frames.{received_in, moved_by, IsRightAfter};
-ghost use Rattle.plain_server.specs.Replies.{slots_of, replies_of};
 ghost use Rattle.packet_read.specs.declared.arrival.TheConstants.{MOST_ARRIVALS};
 ghost use Rattle.arena_map.specs.declared.limits.TheConstants.{MOST_FRAMES};
-ghost use Rattle.plain_server.specs.Takers.{HasOneTaker, HasItemsAway};
 ghost use Rattle.move_phase.specs.Serving.{AreWorkers};
-ghost use Rattle.frame_phases.specs.Servers.{server_after};
+ghost use Rattle.frame_phases.specs.FramesRun.{RunsFrame, IsGiven, HasItemsTaken};
 ghost use Rattle.frame_phases.specs.FrameOuts.{IsEmpty};
 
 use crate::frame_out::FrameOut;
@@ -30,18 +26,17 @@ pub struct Server {
 
 // Clauses see the map, the clients by slot beside the records by id, and the number of frames.
 impl Model for Server {
-    ghost use Rattle.arena_actions.specs.MapActions.{map_in, IsOfItsMap};
-    ghost use Rattle.std.specs.Prelude.{◌≡◌};
+    ghost use Rattle.arena_actions.specs.MapActions.{map_in};
     ghost use Rattle.client_ports.specs.States.{state_of};
-    ghost use Rattle.frame_phases.specs.Servers.{ServerView, server_view, IsServer};
+    ghost use Rattle.frame_phases.specs.Servers.{ServerView, server_view};
+    ghost use Rattle.frame_phases.specs.Beginnings.{AreStatesOf};
 
     ghost Value = { ServerView };
 
     ghost view = { λ s. server_view (map_in s.action) (state_of s.states.state.ports s.states.state.world.records)
         s.states.frames };
 
-    ghost invariant = { λ s. IsServer (map_in s.action) (state_of s.states.state.ports s.states.state.world.records)
-        × (s.states.next.world.tree ≡ s.states.state.world.tree) × (IsOfItsMap s.action) };
+    ghost invariant = { λ s. AreStatesOf s.action s.states };
 }
 
 impl Server {
@@ -93,22 +88,9 @@ pub fn run_frame<R: Threads + Wait + Sync, G: Gate>(
     requires few { length arrivals.now ≤ MOST_ARRIVALS }
     requires frames { server.old.frames < MOST_FRAMES }
     requires workers { AreWorkers workers }
-    ensures frame { OnOk result (out.new.frame ≡ server.old.frames) }
-    ensures received { OnOk result (out.new.received.lists
-        ≡ (received_in server.old.map server.old.frames server.old.state arrivals.now).lists) }
-    ensures right { OnOk result (IsRightAfter server.old.map
-        (received_in server.old.map server.old.frames server.old.state arrivals.now) out.new.journal.entries) }
-    ensures order { OnOk result (workers ≡ 1 → IsInOrder out.new.journal.entries
-        (received_in server.old.map server.old.frames server.old.state arrivals.now).lists.moves) }
-    ensures few { OnOk result (length out.new.journal.entries ≤ 512) }
-    ensures slots { OnOk result (out.new.slots ≡ slots_of (moved_by server.old.map
-        (received_in server.old.map server.old.frames server.old.state arrivals.now) out.new.journal.entries).records) }
-    ensures replies { OnOk result (out.new.replies ≡ replies_of server.old.frames (moved_by server.old.map
-        (received_in server.old.map server.old.frames server.old.state arrivals.now) out.new.journal.entries).records) }
-    ensures next { OnOk result (server.new ≡ server_after server.old arrivals.now out.new.journal.entries) }
-    ensures one_taker { OnOk result (HasOneTaker server.old.map out.new.journal.entries) }
-    ensures away { OnOk result (HasItemsAway server.old.map server.old.frames out.new.journal.entries
-        server.new.state.records) }
+    ensures runs { OnOk result (RunsFrame workers server.old server.new arrivals.now out.new.journal.entries) }
+    ensures given { OnOk result (IsGiven server.old arrivals.now out.new.journal.entries out.new) }
+    ensures items { OnOk result (HasItemsTaken server.old server.new out.new.journal.entries) }
     ensures unchanged { OnErr result (server.new ≡ server.old) }
     ensures emptied { OnErr result (IsEmpty out.new) }
 {

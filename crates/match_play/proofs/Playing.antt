@@ -24,7 +24,8 @@ use Rattle.demo_make.specs.Words.{word_at}
 use Rattle.match_play.specs.declared.totals.Totals.{Totals}
 use Rattle.match_play.specs.Totals.{no_totals, totals_with, receptions, joins_in, refused_in, items_in}
 use Rattle.match_play.specs.Matches.{AreRightSoFar, AreInOrderSoFar, match_totals, entries_of}
-use Rattle.playback.specs.Playbacks.{RunsFrame, Closes, MayClose, entries_if}
+use Rattle.frame_phases.specs.FramesRun.{RunsFrame}
+use Rattle.playback.specs.Playbacks.{Closes, MayClose, entries_if}
 use Rattle.match_play.specs.Games.{GameView, journals_after, totals_with_frame, totals_after}
 
 -- ---- one frame more

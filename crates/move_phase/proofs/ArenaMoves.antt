@@ -27,8 +27,8 @@ use Rattle.plain_server.specs.Moving.{HasLivePlayer}
 use Rattle.plain_server.proofs.ById.{records_in-world_of}
 use Rattle.plain_server.proofs.Others.{each_live}
 use Rattle.plain_server.proofs.Players.{live_record}
-use Rattle.move_phase.specs.Numbers.{HaveSmallNumbers}
 use Rattle.move_phase.specs.Running.{HaveRun}
+use Rattle.ruled_words.specs.Numbers.{HasSmallNumbers}
 use Rattle.ruled_words.specs.Passes.{PassView, TableView}
 use Rattle.move_phase.specs.Starting.{StartedView, fixed_of_arena, IsSharedFor, IsSharedForAny, AreStarted}
 use Rattle.move_phase.proofs.StartWorlds.{start_world_is, live_is_listed, records_are}
@@ -36,13 +36,12 @@ use Rattle.move_phase.proofs.Journals.{history_is_run, journal_right}
 
 -- ---- what is asked
 
--- the live records of a valid world are taken
-pub all_taken : (arena : MapView) (records : List (Option Rec)) → IsMap arena → IsValidWorld arena records → HaveSmallNumbers records
-    → All (λ (r : Rec). takes arena r ≡ true) (live_in records)
-all_taken arena records is_map valid small =
-    All-from_recursion (λ (r : Rec). takes arena r ≡ true) (live_in records)
-    (each_live (λ (r : Rec). takes arena r ≡ true) records
-    (λ id r at. valid_is_taken arena records id r is_map valid at (small id r at).score (small id r at).seq))
+-- the live records of a valid world are taken, where their numbers are small
+pub all_taken : (arena : MapView) (records : List (Option Rec)) → IsMap arena → IsValidWorld arena records
+    → All (λ (r : Rec). HasSmallNumbers r → takes arena r ≡ true) (live_in records)
+all_taken arena records is_map valid =
+    let P : Rec → Type 0 = λ r. HasSmallNumbers r → takes arena r ≡ true in
+    All-from_recursion P (live_in records) (each_live P records (λ id r at small. valid_is_taken arena records id r is_map valid at small.score small.seq))
 
 -- live players are listed
 pub all_listed : (arena : MapView) (records : List (Option Rec)) (commands : List Command) → IsValidWorld arena records → All (HasLivePlayer records) commands
@@ -81,11 +80,11 @@ ran_as_started world new commands s table passes workers logs lent shared worker
     (subst (λ (w : WorldView). HaveRun (fixed_of_arena s.action w) workers commands logs new) shared.world_is
     (subst (λ (a : MapAction). HaveRun (fixed_of_arena a table.world) workers commands logs new) shared.action_is ran)))
 
--- the live records of a valid world are those that the action of its map takes
-pub all_taken_by : (action : MapAction) (records : List (Option Rec)) → IsOfItsMap action → IsMap (map_in action) → IsValidWorld (map_in action) records → HaveSmallNumbers records
-    → All (λ (r : Rec). (meaning_in action).takes r ≡ true) (live_in records)
-all_taken_by action records of_its_map is_map valid small =
-    subst (λ (m : Meaning). All (λ (r : Rec). m.takes r ≡ true) (live_in records)) (sym (means_its_map action of_its_map)) (all_taken (map_in action) records is_map valid small)
+-- the live records of a valid world are those that the action of its map takes, where their numbers are small
+pub all_taken_by : (action : MapAction) (records : List (Option Rec)) → IsOfItsMap action → IsMap (map_in action) → IsValidWorld (map_in action) records
+    → All (λ (r : Rec). HasSmallNumbers r → (meaning_in action).takes r ≡ true) (live_in records)
+all_taken_by action records of_its_map is_map valid =
+    subst (λ (m : Meaning). All (λ (r : Rec). HasSmallNumbers r → m.takes r ≡ true) (live_in records)) (sym (means_its_map action of_its_map)) (all_taken (map_in action) records is_map valid)
 
 module _ (action : MapAction) (of_its_map : IsOfItsMap action) (old new : WorldView) (workers : ℕ) (commands : List Command) (logs : List JournalView)
     (ran : HaveRun (fixed_of_arena action old) workers commands logs new) (some : 0 < workers) (apart : HasNumbersApart commands)

@@ -9,5 +9,4 @@ pub mod Sharing
 pub mod RoomCounts
 pub mod StartWorlds
 pub mod Journals
-pub mod SmallNumbers
 pub mod ArenaMoves

@@ -7,4 +7,3 @@ pub mod Serving
 pub mod Running
 pub mod Sharing
 pub mod Starting
-pub mod Numbers

@@ -4,7 +4,6 @@
 pub use rooms::MOST_WORKERS;
 pub use started::StartedMoves;
 
-mod numbers;
 mod rooms;
 mod serve;
 mod started;

@@ -6,7 +6,6 @@ ghost use Rattle.plain_server.specs.Moving.{HasLivePlayer};
 ghost use Rattle.move_phase.specs.Serving.{AreWorkers};
 ghost use Rattle.move_phase.specs.Starting.{IsSharedForAny};
 
-use crate::numbers::look_at_all;
 use crate::workers::{run_on_workers, share};
 use arena_actions::MapAction;
 use entity_recs::Cmd;
@@ -40,9 +39,6 @@ fn share_for_any<'a>(
     if moves.is_empty() {
         return Ok(None);
     }
-    // To ask for the map is to know that it keeps its rules.
-    let _map = action.map();
-    look_at_all(world);
     Ok(Some(share(alloc, action, world, moves, workers)?))
 }
 

@@ -1,7 +1,8 @@
-ghost use Rattle.std.specs.Prelude.{◌≡◌, ◌<◌, ◌≤◌, ◌^◌, true, [], map, length, All, IfOk};
+ghost use Rattle.std.specs.Prelude.{◌≡◌, ◌<◌, ◌≤◌, ◌^◌, true, [], map, length, All, IfOk, OnOk};
 ghost use Rattle.entity_recs.specs.Commands.{command_of};
 ghost use Rattle.world_tree.specs.Live.{live_in};
 ghost use Rattle.world_tree.specs.Worlds.{IsLinked};
+ghost use Rattle.ruled_words.specs.Numbers.{HasSmallNumbers};
 ghost use Rattle.ruled_words.specs.Passes.{fixed_in};
 ghost use Rattle.ruled_words.specs.Starts.{fixed_by};
 ghost use Rattle.move_phase.specs.declared.rooms.TheConstants.{MOST_WORKERS};
@@ -30,12 +31,13 @@ pub(crate) fn share<'a, A: Action>(
 ) -> Result<(Shared<'a, A>, PassList<A>), AllocError>
     requires workers { (0 < workers) × (workers ≤ MOST_WORKERS) }
     requires few { length moves.now < 2 ^ 32 }
-    requires taken { All (λ r. (A.meaning action.now).takes r ≡ true) (live_in world.now.records) }
+    requires taken { All (λ r. HasSmallNumbers r → (A.meaning action.now).takes r ≡ true) (live_in world.now.records) }
     requires live { AreOfLive (fixed_by A.meaning action.now world.now)
         (map command_of moves.now) }
     ensures shared { IfOk result (λ s. (s.0.action ≡ action.now) × (s.0.world ≡ world.now)) }
     ensures ready { IfOk result (λ s. IsReadyFor (fixed_in A.meaning s.0) workers
         (map command_of moves.now) s.0.table s.0.rooms s.1.items) }
+    ensures linked { OnOk result (IsLinked world.now) }
 {
     let room = rooms(moves, workers);
     Shared::start(alloc, action, world, &room[..usize::from(workers)])

@@ -11,9 +11,10 @@ use Rattle.plain_server.specs.Replies.{players_in}
 use Rattle.snapshot_write.specs.Snapshots.{snapshot}
 use Rattle.frame_phases.specs.declared.frame_out.FrameOut.{FrameOut}
 use Rattle.frame_phases.specs.Servers.{ServerView}
+use Rattle.frame_phases.specs.FramesRun.{RunsFrame, IsGiven, shown_by}
 use Rattle.demo_lines.specs.declared.event.Event.{Event}
 use Rattle.demo_lines.specs.declared.event.Event.TheVariants.{Frame, From, End}
-use Rattle.playback.specs.Playbacks.{Course, PlaybackView, RunsFrame, ArePrintable, IsGiven, IsGivenIf, Closes, GoesOn, MayClose, IsReady, shown_by}
+use Rattle.playback.specs.Playbacks.{Course, PlaybackView, ArePrintable, IsGivenIf, Closes, GoesOn, MayClose, IsReady}
 
 -- ---- the frame that was closed
 

@@ -7,4 +7,5 @@ pub use Rattle.plain_server.specs.Frames
 pub use Rattle.plain_server.specs.Replies
 pub use Rattle.frame_phases.specs.Scores
 pub use Rattle.frame_phases.specs.Servers
+pub use Rattle.frame_phases.specs.FramesRun
 pub mod Playbacks

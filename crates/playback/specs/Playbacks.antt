@@ -1,17 +1,14 @@
 -- A server over events: what an event closes, and how the server goes on.
 use Rattle.std.specs.Prelude.{◌≡◌, ℕ, ◌<◌, ◌≤◌, List, [], ◌∷◌, ◌++◌, length, All, Option, Some, None, option_map, IfSome, ⊤}
-use Rattle.entity_recs.specs.declared.rec.Rec.{Rec}
 use Rattle.entity_recs.specs.declared.effect.Entry.{Entry}
 use Rattle.move_journal.specs.Logs.{JournalView}
-use Rattle.move_journal.specs.Merges.{IsInOrder}
 use Rattle.arena_map.specs.declared.limits.TheConstants.{MOST_FRAMES}
 use Rattle.arena_map.specs.Maps.{MapView}
 use Rattle.packet_read.specs.declared.arrival.TheConstants.{MOST_ARRIVALS}
 use Rattle.packet_read.specs.declared.arrival.Arrival.{Arrival}
-use Rattle.plain_server.specs.Frames.{received_in, moved_by, IsRightAfter}
-use Rattle.plain_server.specs.Replies.{slots_of, replies_of}
 use Rattle.frame_phases.specs.declared.frame_out.FrameOut.{FrameOut}
-use Rattle.frame_phases.specs.Servers.{ServerView, new_server, server_after}
+use Rattle.frame_phases.specs.Servers.{ServerView, new_server}
+use Rattle.frame_phases.specs.FramesRun.{RunsFrame, IsGiven}
 use Rattle.demo_lines.specs.declared.event.Event.{Event}
 use Rattle.demo_lines.specs.declared.event.Event.TheVariants.{Frame, From, End}
 
@@ -41,28 +38,6 @@ pub record ArePrintable (out : FrameOut) : Type 0 where
   pub some : All (λ (bytes : List ℕ). 1 ≤ length bytes) out.replies
 
 -- ---- a frame
-
--- a frame with these packets was run: its journal is right, has at most 512 entries, and with one worker has the
--- moves in the order of arrival
--- That there are at most 512 entries follows from the slots, not from the packets, and needs the server's invariant,
--- which callers of a playback don't see.
-pub record RunsFrame (workers : ℕ) (old new : ServerView) (arrivals : List Arrival) (journal : List Entry) : Type 0
-  where
-    pub right : IsRightAfter old.map (received_in old.map old.frames old.state arrivals) journal
-    pub order : workers ≡ 1 → IsInOrder journal (received_in old.map old.frames old.state arrivals).lists.moves
-    pub few : length journal ≤ 512
-    pub next : new ≡ server_after old arrivals journal
-
--- the records that the replies to a frame with this journal show
-abbrev pub shown_by : ServerView → List Arrival → List Entry → List (Option Rec)
-shown_by t arrivals journal = (moved_by t.map (received_in t.map t.frames t.state arrivals) journal).records
-
--- this is what a frame with these packets and this journal gave out beside the journal
-pub record IsGiven (t : ServerView) (arrivals : List Arrival) (journal : List Entry) (out : FrameOut) : Type 0 where
-  pub frame_is : out.frame ≡ t.frames
-  pub lists_are : out.received.lists ≡ (received_in t.map t.frames t.state arrivals).lists
-  pub slots_are : out.slots ≡ slots_of (shown_by t arrivals journal)
-  pub replies_are : out.replies ≡ replies_of t.frames (shown_by t arrivals journal)
 
 -- this was given out where a frame with these packets was closed with this journal
 abbrev pub IsGivenIf : ServerView → Option (List Arrival) → Option (List Entry) → FrameOut → Type 0

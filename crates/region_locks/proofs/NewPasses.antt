@@ -7,11 +7,7 @@ use Rattle.std.proofs.lemmas.List.FromFn.{map-range_with_len_more}
 use Rattle.areanode.specs.Trees.{IsTreeDepth}
 use Rattle.core_steps.specs.declared.sizes.TheConstants.{TABLE_WORDS}
 use Rattle.atomic_table.specs.Seated.{TableId}
-use Rattle.entity_recs.specs.Actions.{Meaning}
 use Rattle.entity_recs.specs.Commands.{Command}
-use Rattle.world_tree.specs.Worlds.{WorldView}
-use Rattle.core_seats.specs.Shown.{RulesView, fixed_of, IsRuled}
-use Rattle.ruled_words.specs.Starts.{rules_of}
 use Rattle.core_steps.specs.Nodes.{Fixed}
 use Rattle.core_steps.specs.Points.{Store}
 use Rattle.core_steps.specs.Reads.{View}
@@ -113,8 +109,3 @@ pub others_more : (table : TableId) (setting : Setting) (rooms : List ℕ) (i : 
 others_more table setting rooms i least =
     let count : i + 1 - 1 ≡ i - 1 + 1 = omega (arith, least) in
     ap (λ (n : ℕ). map (other_pass table setting rooms) (range_with_len 1 n)) count ∙ map-range_with_len_more (other_pass table setting rooms) 1 (i - 1) i (omega (arith, least))
-
--- the tree of a world for which there are rules has a depth that it may have
-pub depth_is : {A : Type 0} (meaning : A → Meaning) (action : A) (w : WorldView) (r : RulesView A)
-    → r ≡ rules_of action w → IsRuled (fixed_of meaning r) → IsTreeDepth w.tree.depth
-depth_is {A} meaning action w r is ruled = subst (λ (x : RulesView A). IsTreeDepth x.tree.depth) is ruled.depth

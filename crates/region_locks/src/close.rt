@@ -61,7 +61,6 @@ impl<'a, A: Action> NodeTable<'a, A> {
         ensures linked { IsLinked world.new }
     {
         let NodeTable { words } = self;
-        words.has_rooms();
         let first = end_all(&words, passes, logs);
         relink_all(&words.close(first), world);
     }

@@ -8,6 +8,8 @@ ghost use Rattle.core_seats.specs.Seats.{IsFresh};
 ghost use Rattle.ruled_words.specs.Passes.{fixed_in, setting_of, sight_of, IsOwn};
 ghost use Rattle.ruled_words.specs.Starts.{rules_of};
 ghost use Rattle.world_tree.specs.Live.{live_in};
+ghost use Rattle.world_tree.specs.Worlds.{IsLinked};
+ghost use Rattle.ruled_words.specs.Numbers.{HasSmallNumbers};
 ghost use Rattle.region_locks.specs.NewPasses.{other_pass, new_passes, view_with_made};
 
 use crate::pass::Pass;
@@ -30,10 +32,13 @@ pub struct NodeTable<'a, A: Action> {
 
 impl<'a, A: Action> Model for NodeTable<'a, A> {
     ghost use Rattle.ruled_words.specs.Passes.{TableView};
+    ghost use Rattle.ruled_words.specs.Rule.{HasSomeRooms};
 
     ghost Value = { TableView A };
 
     ghost view = { λ t. t.words };
+
+    ghost invariant = { λ t. HasSomeRooms t.words.rooms };
 }
 
 /// What a pass of these words keeps beside its hand: a seat in plain values with room for `room` entries, from which
@@ -94,14 +99,15 @@ impl<'a, A: Action> NodeTable<'a, A> {
         room: &[u32],
     ) -> Result<(NodeTable<'a, A>, PassList<A>), AllocError>
         requires rooms { (0 < length room.now) × (length room.now ≤ MOST_SEATS) }
-        requires taken { All (λ r. (A.meaning action.now).takes r ≡ true) (live_in world.now.records) }
+        requires taken { All (λ r. HasSmallNumbers r → (A.meaning action.now).takes r ≡ true)
+            (live_in world.now.records) }
         ensures table { IfOk result (λ r. (r.0.action ≡ action.now) × (r.0.world ≡ world.now)
             × (r.0.rooms ≡ room.now)) }
         ensures passes { IfOk result (λ r. r.1.items ≡ new_passes r.0.table (setting_of (fixed_in A.meaning r.0)) room.now) }
         ensures own { IfOk result (λ r. All (IsOwn A.meaning r.0) r.1.items) }
+        ensures linked { OnOk result (IsLinked world.now) }
     {
         let (words, mut first) = SharedWords::new(alloc, action, world, room)?;
-        words.rules().is_ruled();
         let (mirror, near) = pass_lists(alloc, &words, room[0], room.len() as u8)?;
         let mut passes = make_others(alloc, &words, &mut first, room)?;
         passes.insert(0, Pass::resting(first, mirror, near))?;

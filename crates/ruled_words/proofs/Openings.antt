@@ -1,5 +1,6 @@
 -- The world at the start is one that a table may begin with.
-use Rattle.std.proofs.Common.{◌≡◌, ℕ, true, List, [], ◌∷◌, map, sym, ap, subst, All}
+use Rattle.std.proofs.Common.{◌≡◌, ℕ, true, List, [], ◌∷◌, map, Result, Ok, Err, sym, ap, subst, All}
+use Rattle.std.specs.Prelude.{OnOk}
 use Rattle.std.specs.List.{AllByRecursion}
 use Rattle.std.proofs.lemmas.List.Elements.{recursion_from_All, All-from_recursion}
 use Rattle.entity_recs.specs.declared.rec.Rec.{Rec}
@@ -11,6 +12,7 @@ use Rattle.world_tree.proofs.Rising.{live_ids_rise}
 use Rattle.core_steps.specs.Nodes.{Fixed}
 use Rattle.core_steps.specs.Stands.{IsStart, start_core}
 use Rattle.core_seats.proofs.NearLists.{AreFound, found_at_ids}
+use Rattle.ruled_words.specs.Numbers.{HasSmallNumbers}
 use Rattle.ruled_words.specs.Starts.{world_at_start, fixed_of_world, AreStartWords}
 use Rattle.ruled_words.specs.Rule.{HasWords}
 
@@ -33,6 +35,18 @@ world_starts F w is linked taken =
       own = subst (λ (x : World). All (λ id. (x.record_of id).id ≡ id) x.ids) (sym is) (All-from_recursion (λ id. (record_with rs id).id ≡ id) (ids_of w.records) (found_own (record_with rs) rs found));
       taken = subst (λ (x : World). All P (map x.record_of x.ids)) (sym is) (All-from_recursion P (map (record_with rs) (ids_of w.records)) (found_all P (record_with rs) rs found (recursion_from_All P rs taken)));
     }
+
+-- so it is where the action takes each live record whose numbers are small, as those of all that were read are
+pub world_starts_if : (F : Fixed) (w : WorldView) (read : List Rec) → F.start ≡ world_at_start w → IsLinked w → read ≡ live_in w.records → All HasSmallNumbers read
+    → All (λ (r : Rec). HasSmallNumbers r → F.takes r ≡ true) (live_in w.records) → IsStart F
+world_starts_if F w read is linked are small taken =
+    let small_live : All HasSmallNumbers (live_in w.records) = subst (All HasSmallNumbers) are small in
+    world_starts F w is linked (λ k d inside. taken k d inside (small_live k d inside))
+
+-- what holds whatever was made holds where it was
+pub on_ok : {X E P : Type 0} (r : Result X E) → P → OnOk r P
+on_ok (Ok x) holds = holds
+on_ok (Err e) holds = tt
 
 -- the words at the start are those of the core at the start
 pub words_laid : (F : Fixed) (w : WorldView) (words : List ℕ) (room : ℕ) → F.start ≡ world_at_start w → F.tree ≡ w.tree → AreStartWords w words → HasWords words (start_core F room)

@@ -1,10 +1,10 @@
 -- The words of a world at the start.
-use Rattle.std.proofs.Common.{◌≡◌, ℕ, zero, suc, ◌+◌, ◌<◌, Bool, true, false, if◌then◌else◌, List, [], ◌∷◌, ◌++◌, map, take, refl, sym, ap, ◌∙◌, subst, append-nil, inl, inr, Option, Some, None, is_some, arith}
+use Rattle.std.proofs.Common.{◌≡◌, ℕ, zero, suc, ◌+◌, ◌<◌, ◌≤◌, Bool, true, false, if◌then◌else◌, List, [], ◌∷◌, ◌++◌, map, take, length, get_or, refl, sym, ap, ◌∙◌, subst, append-nil, inl, inr, Option, Some, None, is_some, arith}
 use Rattle.std.specs.Prelude.{◌==◌, ◌&&◌, ◌||◌, nat_lt}
-use Rattle.std.specs.List.{range_with_len}
-use Rattle.std.specs.Option.{option_to_list}
+use Rattle.std.specs.List.{range_with_len, filter_map, cons_option}
 use Rattle.std.proofs.lemmas.Bool.{cases_Bool, eqb-true, eq-eqb, ne_eqb, ltb-false, cond-true, cond-false}
-use Rattle.std.proofs.Math.Seq.{take-length}
+use Rattle.std.proofs.lemmas.List.{take_more, take_all}
+use Rattle.std.proofs.lemmas.List.Elements.{filter_map-append}
 use Rattle.link_lists.specs.Pool as pool
 use Rattle.core_steps.proofs.Puts.{eqb_sym}
 use Rattle.std.proofs.lemmas.List.FromFn.{get_or-map-range_with_len, length-map-range_with_len, map-range_with_len_more}
@@ -14,12 +14,11 @@ use Rattle.areanode.specs.Trees.{node_of}
 use Rattle.entity_recs.specs.Worlds.{nobody, record_with, record_or_nobody}
 use Rattle.world_tree.specs.Live.{record_at, live_in, ids_of}
 use Rattle.world_tree.specs.Worlds.{WorldView, record_of, IsLinked}
-use Rattle.world_tree.proofs.LiveRecords.{live-suc}
+use Rattle.world_tree.proofs.Rising.{live_records_by_id}
 use Rattle.core_steps.specs.Encoding.{words_of, nth_word}
 use Rattle.core_steps.specs.Nodes.{has, home}
 use Rattle.std.proofs.lemmas.Option.{same_Some, none-some}
 use Rattle.std.proofs.Math.Bool.{and-false}
-use Rattle.entity_recs.specs.declared.limits.TheConstants.{IDS}
 use Rattle.core_steps.specs.declared.sizes.TheConstants.{TABLE_WORDS}
 use Rattle.core_steps.specs.Stands.{is_player, start_words}
 use Rattle.core_steps.proofs.StartWords.{dead_record, dead_player, words_if_live, state_if_live, nobody_words}
@@ -105,17 +104,28 @@ all_words w words is = subst (AreStartWords w) (sym is) (record {
   each = λ index below. get_or-map-range_with_len (start_word_at w) 0 TABLE_WORDS index index 0 below (omega arith);
 })
 
-live_more : (records : List (Option Rec)) (n : ℕ) → live_in (take (n + 1) records) ≡ live_in (take n records) ++ option_to_list (record_at records n)
-live_more records n = let same : n + 1 ≡ suc n = omega arith in ap (λ (k : ℕ). live_in (take k records)) same ∙ live-suc records n
+-- ---- the live records, read by their ids
 
-pub live_all : (w : WorldView) (n : ℕ) → IsLinked w → n ≡ IDS → live_in (take n w.records) ≡ live_in w.records
-live_all w n linked is = ap live_in (ap (λ (k : ℕ). take k w.records) (is ∙ sym linked.places) ∙ take-length w.records)
+-- one id more
+read_more : (f : ℕ → Option Rec) (ids : List ℕ) (k : ℕ) → k < length ids → filter_map f (take (k + 1) ids) ≡ filter_map f (take k ids) ++ filter_map f (get_or ids k 0 ∷ [])
+read_more f ids k below = ap (filter_map f) (take_more ids k 0 below) ∙ filter_map-append f (take k ids) (get_or ids k 0 ∷ [])
 
-pub live_some : (records : List (Option Rec)) (n : ℕ) (r : Rec) → record_at records n ≡ Some r → live_in (take (n + 1) records) ≡ live_in (take n records) ++ r ∷ []
-live_some records n r is = live_more records n ∙ ap (λ (o : Option Rec). live_in (take n records) ++ option_to_list o) is
+pub read_some : (w : WorldView) (ids : List ℕ) (k : ℕ) (r : Rec) → ids ≡ ids_of w.records → k < length ids → Some r ≡ record_of w (get_or ids k 0)
+    → filter_map (record_of w) (take (k + 1) (ids_of w.records)) ≡ filter_map (record_of w) (take k (ids_of w.records)) ++ r ∷ []
+read_some w ids k r are below is =
+    let P : List ℕ → Type 0 = λ l. filter_map (record_of w) (take (k + 1) l) ≡ filter_map (record_of w) (take k l) ++ r ∷ [] in
+    subst P are (read_more (record_of w) ids k below ∙ ap (λ (o : Option Rec). filter_map (record_of w) (take k ids) ++ cons_option o []) (sym is))
 
-pub live_none : (records : List (Option Rec)) (n : ℕ) → record_at records n ≡ None → live_in (take (n + 1) records) ≡ live_in (take n records)
-live_none records n is = live_more records n ∙ ap (λ (o : Option Rec). live_in (take n records) ++ option_to_list o) is ∙ append-nil (live_in (take n records))
+pub read_none : (w : WorldView) (ids : List ℕ) (k : ℕ) → ids ≡ ids_of w.records → k < length ids → None ≡ record_of w (get_or ids k 0)
+    → filter_map (record_of w) (take (k + 1) (ids_of w.records)) ≡ filter_map (record_of w) (take k (ids_of w.records))
+read_none w ids k are below is =
+    let P : List ℕ → Type 0 = λ l. filter_map (record_of w) (take (k + 1) l) ≡ filter_map (record_of w) (take k l) in
+    subst P are (read_more (record_of w) ids k below ∙ ap (λ (o : Option Rec). filter_map (record_of w) (take k ids) ++ cons_option o []) (sym is) ∙ append-nil (filter_map (record_of w) (take k ids)))
+
+pub read_all : (w : WorldView) (ids : List ℕ) (k : ℕ) → IsLinked w → ids ≡ ids_of w.records → length ids ≤ k → filter_map (record_of w) (take k (ids_of w.records)) ≡ live_in w.records
+read_all w ids k linked are past =
+    let whole : take k (ids_of w.records) ≡ ids_of w.records = take_all k (ids_of w.records) (subst (λ (l : List ℕ). length l ≤ k) are past) in
+    ap (filter_map (record_of w)) whole ∙ sym (live_records_by_id w linked)
 
 pub start_some : (w : WorldView) (id : ℕ) (r : Rec) → IsLinked w → record_of w id ≡ Some r → (world_at_start w).record_of id ≡ r
 start_some w id r linked is = start_record w linked id ∙ ap record_or_nobody is

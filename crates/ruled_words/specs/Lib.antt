@@ -1,6 +1,7 @@
 -- The rule on shared words, and what each step of a seat does to what it has in view.
 pub mod Sights
 pub mod Starts
+pub mod Numbers
 pub mod Going
 pub mod Holders
 pub mod Rule

@@ -1,7 +1,10 @@
-ghost use Rattle.std.specs.Prelude.{◌≡◌, ◌<◌, ◌≤◌, true, [], length, slice_index, All, IfOk};
+ghost use Rattle.std.specs.Prelude.{◌≡◌, ◌<◌, ◌≤◌, true, [], length, slice_index, All, IfOk, IfSome, OnOk};
 ghost use Rattle.core_steps.specs.declared.sizes.TheConstants.{TABLE_WORDS};
+ghost use Rattle.core_steps.specs.Stands.{IsStart};
 ghost use Rattle.world_tree.specs.Live.{live_in};
-ghost use Rattle.ruled_words.specs.Starts.{rules_of};
+ghost use Rattle.world_tree.specs.Worlds.{record_of, IsLinked};
+ghost use Rattle.ruled_words.specs.Starts.{fixed_by, rules_of};
+ghost use Rattle.ruled_words.specs.Numbers.{HasSmallNumbers};
 ghost use Rattle.ruled_words.specs.Rule.{first_sight};
 ghost use Rattle.ruled_words.specs.Going.{IsAtRest};
 ghost use Rattle.areanode.specs.Trees.{IsTreeDepth};
@@ -36,23 +39,23 @@ fn rooms_of(room: &[u32]) -> ArrayVec<u32, MOST_SEATS>
     rooms
 }
 
-/// The first of these rooms.
-fn first_room(room: &[u32]) -> u32
-    requires { 0 < length room.now }
-    ensures { result ≡ slice_index room.now 0 }
+/// The record with this id, if it is live. The numbers of a record that is read are those of their types.
+fn read(world: &World, id: u16) -> Option<Rec>
+    ensures record { result ≡ record_of world.now id }
+    ensures small { IfSome result HasSmallNumbers }
 {
-    room[0]
+    world.get(id)
 }
 
 /// The live records of the world, in rising id.
 fn live_records(alloc: Global, world: &World) -> Result<Vec<Rec>, AllocError>
-    ensures { IfOk result (λ v. v.items ≡ live_in world.now.records) }
+    ensures records { IfOk result (λ v. v.items ≡ live_in world.now.records) }
+    ensures small { IfOk result (λ v. All HasSmallNumbers v.items) }
+    ensures linked { OnOk result (IsLinked world.now) }
 {
-    // To ask for the tree is to know that there is a place for each id.
-    let _tree = world.tree();
     let mut records = Vec::with_capacity(alloc, IDS)?;
-    for id in 0..IDS as u16 {
-        if let Some(r) = world.get(id) {
+    for id in world.live_ids() {
+        if let Some(r) = read(world, *id) {
             records.push(r)?;
         }
     }
@@ -65,8 +68,10 @@ fn rules_at_start<'a, A: Action>(
     action: &'a A,
     world: &World,
 ) -> Result<Rules<'a, A>, AllocError>
-    requires taken { All (λ r. (A.meaning action.now).takes r ≡ true) (live_in world.now.records) }
-    ensures { IfOk result (λ r. r ≡ rules_of action.now world.now) }
+    requires taken { All (λ r. HasSmallNumbers r → (A.meaning action.now).takes r ≡ true) (live_in world.now.records) }
+    ensures rules { IfOk result (λ r. r ≡ rules_of action.now world.now) }
+    ensures start { OnOk result (IsStart (fixed_by A.meaning action.now world.now)) }
+    ensures linked { OnOk result (IsLinked world.now) }
 {
     let records = live_records(alloc, world)?;
     Rules::new(alloc, action, world.tree(), records.as_slice())
@@ -91,7 +96,8 @@ fn lay_table<A: Action>(
     room: &[u32],
 ) -> Result<(WordTable<A>, TableSeat), AllocError>
     requires rooms { (0 < length room.now) × (length room.now ≤ MOST_SEATS) }
-    requires taken { All (λ r. (A.meaning action.now).takes r ≡ true) (live_in world.now.records) }
+    requires start { IsStart (fixed_by A.meaning action.now world.now) }
+    requires linked { IsLinked world.now }
     ensures words { IfOk result (λ t. (t.0.shared.table_id.words ≡ TABLE_WORDS) × (t.0.shared.table_id.slots ≡ 0)) }
     ensures key { IfOk result (λ t. (t.0.shared.key.action.value ≡ action.now)
         × (t.0.shared.key.world.value ≡ world.now) × (t.0.shared.key.rooms.items ≡ room.now)) }
@@ -99,10 +105,6 @@ fn lay_table<A: Action>(
         × (t.1.me ≡ (first_sight (slice_index room.now 0), []))) }
 {
     let words = words_at_start(alloc, world)?;
-    // To ask for the tree is to know that the world is linked, and for the first room that there is one: what the rule
-    // says of the words at the start stands on both.
-    let _tree = world.tree();
-    let _first = first_room(room);
     let rooms = rooms_of(room);
     let about = Key {
         action: Snapshot::of(action),
@@ -122,12 +124,14 @@ impl<'a, A: Action> SharedWords<'a, A> {
         room: &[u32],
     ) -> Result<(SharedWords<'a, A>, Hand), AllocError>
         requires rooms { (0 < length room.now) × (length room.now ≤ MOST_SEATS) }
-        requires taken { All (λ r. (A.meaning action.now).takes r ≡ true) (live_in world.now.records) }
+        requires taken { All (λ r. HasSmallNumbers r → (A.meaning action.now).takes r ≡ true)
+            (live_in world.now.records) }
         ensures table { IfOk result (λ r. (r.0.action ≡ action.now) × (r.0.world ≡ world.now)
             × (r.0.rooms ≡ room.now)) }
         ensures first { IfOk result (λ r. (r.1.table ≡ r.0.table)
             × (sight_of r.1 ≡ first_sight (slice_index room.now 0))) }
         ensures setting { IfOk result (λ r. r.1.setting ≡ setting_of (fixed_in A.meaning r.0)) }
+        ensures linked { OnOk result (IsLinked world.now) }
     {
         let rules = rules_at_start(alloc, action, world)?;
         let (table, place) = lay_table(alloc, action, world, room)?;

@@ -2,7 +2,6 @@ ghost use Rattle.std.specs.Prelude.{◌≡◌, ◌<◌};
 ghost use Rattle.areanode.specs.declared.sizes.TheConstants.{MOST_LEAVES};
 ghost use Rattle.core_steps.specs.Nodes.{inner_nodes};
 ghost use Rattle.ruled_words.specs.Passes.{fixed_in};
-ghost use Rattle.ruled_words.specs.Rule.{HasSomeRooms};
 ghost use Rattle.ruled_words.specs.Starts.{rules_of};
 
 use crate::rule::key::{Key, Locks};
@@ -59,13 +58,5 @@ impl<'a, A: Action> SharedWords<'a, A> {
         ensures few { result < MOST_LEAVES }
     {
         self.rules.first_leaf()
-    }
-
-    /// There are some rooms, and no more than seats.
-    pub fn has_rooms(&self)
-        ensures { HasSomeRooms self.now.rooms }
-    {
-        // To read a part of the words is to know what they were given.
-        let _rules = &self.rules;
     }
 }

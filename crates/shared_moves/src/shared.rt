@@ -1,8 +1,9 @@
-ghost use Rattle.std.specs.Prelude.{◌≡◌, ◌<◌, ◌≤◌, true, [], map, length, All, IfOk};
+ghost use Rattle.std.specs.Prelude.{◌≡◌, ◌<◌, ◌≤◌, true, [], map, length, All, IfOk, OnOk};
 ghost use Rattle.std.specs.List.{range_with_len};
 ghost use Rattle.core_steps.specs.declared.sizes.TheConstants.{MOST_SEATS};
 ghost use Rattle.world_tree.specs.Live.{live_in};
 ghost use Rattle.world_tree.specs.Worlds.{IsLinked};
+ghost use Rattle.ruled_words.specs.Numbers.{HasSmallNumbers};
 ghost use Rattle.ruled_words.specs.Passes.{fixed_in, setting_of, IsPassOf, IsOwn};
 ghost use Rattle.ruled_words.specs.Sights.{AreRefusalsServed};
 ghost use Rattle.region_locks.specs.NewPasses.{new_passes};
@@ -39,11 +40,13 @@ impl<'a, A: Action> Shared<'a, A> {
         room: &[u32],
     ) -> Result<(Shared<'a, A>, PassList<A>), AllocError>
         requires rooms { (0 < length room.now) × (length room.now ≤ MOST_SEATS) }
-        requires taken { All (λ r. (A.meaning action.now).takes r ≡ true) (live_in world.now.records) }
+        requires taken { All (λ r. HasSmallNumbers r → (A.meaning action.now).takes r ≡ true)
+            (live_in world.now.records) }
         ensures shared { IfOk result (λ r. (r.0.action ≡ action.now) × (r.0.world ≡ world.now)
             × (r.0.rooms ≡ room.now)) }
         ensures passes { IfOk result (λ r. r.1.items ≡ new_passes r.0.table (setting_of (fixed_in A.meaning r.0)) room.now) }
         ensures own { IfOk result (λ r. All (IsOwn A.meaning r.0) r.1.items) }
+        ensures linked { OnOk result (IsLinked world.now) }
     {
         let (table, passes) = NodeTable::new(alloc, action, world, room)?;
         Ok((Shared { table }, passes))

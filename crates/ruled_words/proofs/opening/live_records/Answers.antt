@@ -1,24 +1,32 @@
-use Rattle.std.proofs.Common.{◌≡◌, ◌++◌, ◌∷◌, [], sym, ◌∙◌, ap, List, Vec, Global, arith}
-use Rattle.entity_recs.specs.declared.limits.TheConstants.{IDS}
+use Rattle.std.proofs.Common.{◌++◌, ◌∷◌, [], sym, ◌∙◌, ap, subst, List, Vec, Global, All, ◌≡◌}
+use Rattle.std.proofs.lemmas.List.Elements.{All-push}
 use Rattle.entity_recs.specs.declared.rec.Rec.{Rec}
-use Rattle.ruled_words.proofs.Worlds.{live_some, live_none, live_all}
+use Rattle.ruled_words.specs.Numbers.{HasSmallNumbers}
+use Rattle.ruled_words.proofs.Worlds.{read_some, read_none, read_all}
 use Rattle.ruled_words.proofs.opening.live_records.Goals as goal
 use Rattle.ruled_words.proofs.opening.live_records.Goals.{in-Some+in_ok-push, in_default}
 
 pub loop-id-preserved : goal.loop-id-preserved
 loop-id-preserved c =
-    let records = c.args.world.now.records in
-    elim c.match-get.branch [
-      | in-Some+in_ok-push w ↦
-          ap (λ (v : Vec Rec Global). v.items) w.records-is ∙ w.in_ok-push.ensures.items
-          ∙ ap (λ (rs : List Rec). rs ++ w.in-Some.r ∷ []) c.loop-id.invariant
-          ∙ sym (live_some records c.loop-id.id w.in-Some.r (sym c.get.ensures.record ∙ w.in-Some.is))
-      | in_default w ↦
-          ap (λ (v : Vec Rec Global). v.items) w.records-is ∙ c.loop-id.invariant
-          ∙ sym (live_none records c.loop-id.id (sym c.get.ensures.record ∙ w.in_default.is))
+    let w = c.args.world.now in
+    let ids = c.live_ids-id-items.result.now in
+    let so_far = c.loop-id.invariant in
+    elim c.match-read.branch [
+      | in-Some+in_ok-push b ↦
+          let items : c.match-read.records.items ≡ c.loop-id.records.items ++ b.in-Some.r ∷ [] = ap (λ (v : Vec Rec Global). v.items) b.records-is ∙ b.in_ok-push.ensures.items in
+          record {
+            so_far = items ∙ ap (λ (rs : List Rec). rs ++ b.in-Some.r ∷ []) so_far.so_far
+                ∙ sym (read_some w ids c.loop-id.id-index b.in-Some.r c.live_ids-id-items.ensures.ids c.loop-id-test.true (sym b.in-Some.is ∙ c.read.ensures.record));
+            small = subst (All HasSmallNumbers) (sym items) (All-push HasSmallNumbers c.loop-id.records.items b.in-Some.r so_far.small b.in-Some.ensures.small);
+          }
+      | in_default b ↦
+          let items : c.match-read.records.items ≡ c.loop-id.records.items = ap (λ (v : Vec Rec Global). v.items) b.records-is in
+          record {
+            so_far = items ∙ so_far.so_far ∙ sym (read_none w ids c.loop-id.id-index c.live_ids-id-items.ensures.ids c.loop-id-test.true (sym b.in_default.is ∙ c.read.ensures.record));
+            small = subst (All HasSmallNumbers) (sym items) so_far.small;
+          }
     ]
 
-pub returns : goal.returns
-returns c =
-    let end : c.loop-id.id ≡ IDS = omega (arith, c.loop-id-test.false, c.loop-id.auto.id-end) in
-    c.loop-id.invariant ∙ live_all c.args.world.now c.loop-id.id c.tree-tree.ensures.linked end
+pub returns-clause-records : goal.returns-clause-records
+returns-clause-records c =
+    c.loop-id.invariant.so_far ∙ read_all c.args.world.now c.live_ids-id-items.result.now c.loop-id.id-index c.live_ids-id-items.ensures.linked c.live_ids-id-items.ensures.ids c.loop-id-test.false

@@ -10,8 +10,11 @@ use Rattle.client_ports.proofs.ports.Ports.receive.Goals as goal
 
 pub overflow_add-place : goal.overflow_add-place
 overflow_add-place c =
-    let most = ap (λ (r : Room). r.joined) c.room-room.ensures in
-    omega (arith, c.loop-arrival.invariant.place, c.loop-arrival-test.true, c.requires.room.joined, most, c.room-room.type_inv)
+    omega (arith, c.loop-arrival.invariant.place, c.loop-arrival-test.true)
+
+pub receive_one-requires-clause-place : goal.receive_one-requires-clause-place
+receive_one-requires-clause-place c =
+    omega (arith, c.loop-arrival.invariant.place, c.loop-arrival-test.true, c.requires.room.refused, ap (λ (r : Room). r.refused) c.loop-arrival.invariant.room)
 
 pub receive_one-requires-clause-room : goal.receive_one-requires-clause-room
 receive_one-requires-clause-room c =
@@ -20,7 +23,7 @@ receive_one-requires-clause-room c =
     room_left c.loop-arrival.arrival-index all c.loop-arrival.out c.loop-arrival.invariant.left c.loop-arrival-test.true fits
 
 pub receive_one-requires-clause-moves : goal.receive_one-requires-clause-moves
-receive_one-requires-clause-moves c =
+receive_one-requires-clause-moves c = λ apart.
     let i = c.loop-arrival.arrival-index in
     let all = length c.args.arrivals.now in
     let fits = subst (IsRoomFor all) (sym c.loop-arrival.invariant.room) c.requires.room in
@@ -30,7 +33,7 @@ receive_one-requires-clause-moves c =
     let state = state_of c.args.self.now c.args.world.now.records in
     let whole = after_arrivals c.args.map.now c.args.frame (receiving_of state c.args.out.now.lists) 0 c.args.arrivals.now in
     let rest = arrivals-next c.args.map.now c.args.frame before next whole c.loop-arrival.place i a c.args.arrivals.now c.loop-arrival-test.true c.arrival-item.is refl c.loop-arrival.invariant.rest in
-    let few = whole_few c.args.map.now c.args.frame state c.args.out.now.lists c.args.arrivals.now c.clients-clients.ensures.apart c.requires.empty in
+    let few = whole_few c.args.map.now c.args.frame state c.args.out.now.lists c.args.arrivals.now before c.loop-arrival.place (drop i c.args.arrivals.now) apart c.loop-arrival.invariant.rest c.requires.empty in
     moves_fit i all c.args.map.now c.args.frame before c.loop-arrival.place a (drop (i + 1) c.args.arrivals.now) c.loop-arrival.out.room whole c.loop-arrival.invariant.left c.loop-arrival-test.true fits rest few
 
 pub loop-arrival-preserved : goal.loop-arrival-preserved

@@ -6,4 +6,8 @@ use Rattle.frame_phases.proofs.server.Server.new.Goals as goal
 pub invariant_of-result : goal.invariant_of-result
 invariant_of-result c =
     let state = c.in_ok-states.states.state in
-    (first_server (map_in c.new-action.result) c.map.result.now (state_of state.ports state.world.records) c.map.ensures.value c.map.ensures.rules c.in_ok-states.ensures.state, c.in_ok-states.ensures.tree, c.new-action.ensures.of_its_map)
+    record {
+      server = first_server (map_in c.new-action.result) c.map.result.now (state_of state.ports state.world.records) c.map.ensures.value c.map.ensures.rules c.in_ok-states.ensures.state;
+      tree = c.in_ok-states.ensures.tree;
+      of_its_map = c.new-action.ensures.of_its_map;
+    }

@@ -22,24 +22,24 @@ end_all-first-requires-clause-numbers g c κs within =
 pub end_all-first-requires-clause-count : goal.end_all-first-requires-clause-count
 end_all-first-requires-clause-count g c κs within =
     let count = passes_count c.args.passes.items _ c.requires.all in
-    let rooms : HasSomeRooms c.args.self.rooms = subst (λ (t : TableView _). HasSomeRooms t.rooms) c.self.view_is c.has_rooms.ensures in
+    let rooms : HasSomeRooms c.args.self.rooms = subst (λ (t : TableView _). HasSomeRooms t.rooms) c.self.view_is c.self.invariant in
     let some = rooms.some in
     let few = rooms.few in
     (omega (arith, count, some), omega (arith, count, few))
 
 pub close-requires-clause-rests : goal.close-requires-clause-rests
 close-requires-clause-rests g c κs within =
-    let rooms : HasSomeRooms c.args.self.rooms = subst (λ (t : TableView _). HasSomeRooms t.rooms) c.self.view_is c.has_rooms.ensures in
+    let rooms : HasSomeRooms c.args.self.rooms = subst (λ (t : TableView _). HasSomeRooms t.rooms) c.self.view_is c.self.invariant in
     (left_here _ _ _ c.args.passes.items _ c.requires.own c.requires.none c.requires.all rooms.some c.end_all-first.ensures.sight).rests
 
 pub close-requires-clause-first : goal.close-requires-clause-first
 close-requires-clause-first g c κs within =
-    let rooms : HasSomeRooms c.args.self.rooms = subst (λ (t : TableView _). HasSomeRooms t.rooms) c.self.view_is c.has_rooms.ensures in
+    let rooms : HasSomeRooms c.args.self.rooms = subst (λ (t : TableView _). HasSomeRooms t.rooms) c.self.view_is c.self.invariant in
     (left_here _ _ _ c.args.passes.items _ c.requires.own c.requires.none c.requires.all rooms.some c.end_all-first.ensures.sight).first
 
 pub close-requires-clause-ended : goal.close-requires-clause-ended
 close-requires-clause-ended g c κs within = λ n above below.
-    let rooms : HasSomeRooms c.args.self.rooms = subst (λ (t : TableView _). HasSomeRooms t.rooms) c.self.view_is c.has_rooms.ensures in
+    let rooms : HasSomeRooms c.args.self.rooms = subst (λ (t : TableView _). HasSomeRooms t.rooms) c.self.view_is c.self.invariant in
     let count = passes_count c.args.passes.items _ c.requires.all in
     let same = ap (λ (t : TableView _). length t.rooms) c.self.view_is in
     (left_here _ _ _ c.args.passes.items _ c.requires.own c.requires.none c.requires.all rooms.some c.end_all-first.ensures.sight).ended n above (omega (arith, below, count, same))
@@ -57,7 +57,7 @@ pub returns-clause-closed : goal.returns-clause-closed
 returns-clause-closed g c =
     let passes = c.args.passes.items in
     let first = c.end_all-first.result in
-    let rooms : HasSomeRooms c.args.self.rooms = subst (λ (t : TableView _). HasSomeRooms t.rooms) c.self.view_is c.has_rooms.ensures in
+    let rooms : HasSomeRooms c.args.self.rooms = subst (λ (t : TableView _). HasSomeRooms t.rooms) c.self.view_is c.self.invariant in
     let F : Fixed = fixed_in g.A.Action.meaning c.args.self in
     let closes : Closes F c.close.result first.view = subst (λ (t : TableView _). Closes (fixed_in g.A.Action.meaning t) c.close.result first.view) c.self.view_is c.close.ensures.closes in
     let start : IsStart F = subst (λ (t : TableView _). IsStart (fixed_in g.A.Action.meaning t)) c.self.view_is c.close.ensures.start in

@@ -1,11 +1,13 @@
 use Rattle.std.proofs.Common.{◌≡◌, List, ◌∷◌, length, All, sym, ap, ◌∙◌, subst}
 use Rattle.atomic_table.specs.Seated.{TableId}
+use Rattle.areanode.specs.Trees.{IsTreeDepth}
+use Rattle.world_tree.specs.Worlds.{WorldView}
 use Rattle.core_steps.specs.Nodes.{Fixed}
 use Rattle.ruled_words.specs.Sights.{SightView}
 use Rattle.ruled_words.specs.Passes.{PassView, IsPassOf, fixed_in, setting_of}
 use Rattle.ruled_words.specs.declared.setting.Setting.{Setting}
 use Rattle.region_locks.specs.NewPasses.{new_pass, first_pass, new_passes}
-use Rattle.region_locks.proofs.NewPasses.{all_own, depth_is}
+use Rattle.region_locks.proofs.NewPasses.{all_own}
 use Rattle.region_locks.proofs.table.NodeTable.new.Goals as goal
 
 pub returns-clause-own : goal.returns-clause-own
@@ -15,7 +17,7 @@ returns-clause-own g c =
     let made = c.in_ok-words.ensures in
     let hand = c.make_others.new.first in
     let F : Fixed = fixed_in g.A.Action.meaning words in
-    let depth = depth_is g.A.Action.meaning words.action words.world c.rules.result.now c.rules.ensures c.is_ruled.ensures in
+    let depth : IsTreeDepth words.world.tree.depth = subst (λ (w : WorldView). IsTreeDepth w.tree.depth) (sym made.table.1) made.linked.depth in
     let setting : Setting = setting_of F in
     let first : c.resting.result ≡ first_pass table setting c.args.room.now =
     c.resting.ensures
