@@ -1,6 +1,5 @@
 -- Lemmas on the action of an arena.
-pub mod Marking
-pub mod Indexing
+pub mod Overlapping
 pub mod Leaping
 pub mod Keeping
 pub mod Rising

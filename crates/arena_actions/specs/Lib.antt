@@ -2,6 +2,7 @@
 pub use Rattle.arena_geo.specs.Vectors
 pub use Rattle.arena_geo.specs.Bounds
 pub use Rattle.arena_geo.specs.Boxes
+pub use Rattle.box_strips.specs.Strips
 pub use Rattle.entity_recs.specs.Records
 pub use Rattle.entity_recs.specs.Bodies
 pub use Rattle.entity_recs.specs.Commands
@@ -15,5 +16,4 @@ pub use Rattle.arena_outcomes.specs.Regions
 pub use Rattle.arena_outcomes.specs.Takes
 pub use Rattle.arena_outcomes.specs.Meanings
 pub mod Leaps
-pub mod Indexes
 pub mod MapActions

@@ -1,13 +1,13 @@
 ghost use Rattle.arena_map.specs.Maps.{IsMap, solids_of};
-ghost use Rattle.arena_actions.specs.Indexes.{IsIndexOf};
+ghost use Rattle.box_strips.specs.Strips.{IsIndexOf};
 ghost use Rattle.std.specs.Prelude.{◌≡◌};
 ghost use Rattle.arena_actions.specs.Leaps.{leaps_of};
 ghost use Rattle.arena_outcomes.proofs.Props.{IsMap-prop};
 ghost use Rattle.std.proofs.Props.{props};
 
+use crate::boxes::SolidIndex;
 use crate::leaps::Leaps;
 use crate::moving::moved_player;
-use crate::solid_index::SolidIndex;
 use arena_map::ArenaMap;
 use entity_recs::{Cmd, Effect, IdList, Rec, Reply, StateList};
 use trigger_rules::touch_all;
@@ -39,7 +39,7 @@ impl ArenaAction {
     pub fn new(map: ArenaMap) -> ArenaAction
         ensures { result.map ≡ map }
     {
-        let index = SolidIndex::new(map.bounds(), map.solids());
+        let index = SolidIndex::of(map.bounds(), map.solids());
         let leaps = Leaps::of(&map);
         ArenaAction { map, index, leaps }
     }

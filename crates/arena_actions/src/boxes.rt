@@ -1,7 +1,16 @@
-use crate::solid_index::SolidIndex;
 use arena_geo::{Aabb, Vec3};
+use box_strips::{BoxStrips, next_place};
 use entity_recs::{Rec, body_box};
 use std::marker::Model;
+
+/// How many words have a bit for each solid of a map.
+pub const SOLID_WORDS: usize = 17;
+
+/// How many strips the arena is cut into along x, and along y.
+const SOLID_STRIPS: usize = 64;
+
+/// An index over the solids of a map.
+pub type SolidIndex = BoxStrips<SOLID_STRIPS, SOLID_WORDS>;
 
 /// A list of at most `N` boxes, which lie in the value itself and take no memory.
 #[derive(Drop)]
@@ -27,7 +36,7 @@ impl<const N: usize> Boxes<N> {
     ghost use Rattle.arena_geo.specs.Boxes.{overlaps};
     ghost use Rattle.entity_recs.specs.Records.{IsRecord};
     ghost use Rattle.trigger_rules.specs.Touching.{bodies_of_solids};
-    ghost use Rattle.arena_actions.specs.Indexes.{IsIndexOf};
+    ghost use Rattle.box_strips.specs.Strips.{IsIndexOf};
 
     /// No boxes.
     pub fn new() -> Self
@@ -79,13 +88,14 @@ impl<const N: usize> Boxes<N> {
         ensures boxes { OnTrue result (self.new ≡ self.old ++ filter (overlaps place.now) solids.now) }
         ensures room { length self.old + length solids.now ≤ N → IsTrue result }
     {
-        let look = index.look(place);
-        let mut at = index.next(&look, 0, solids.len());
-        while at < solids.len() {
-            if !self.push_if_overlapping(place, solids[at]) {
+        let mut near = [0; SOLID_WORDS];
+        index.mark_near(place, &mut near);
+        let mut at = 0;
+        while let Some(found) = next_place(&near, at, solids.len()) {
+            if !self.push_if_overlapping(place, solids[found]) {
                 return false;
             }
-            at = index.next(&look, at + 1, solids.len());
+            at = found + 1;
         }
         true
     }

@@ -8,12 +8,11 @@ ghost use Rattle.player_move.specs.Moves.{move_of};
 ghost use Rattle.player_move.specs.Laws as moves;
 ghost use Rattle.arena_map.specs.Maps.{solids_of};
 ghost use Rattle.trigger_rules.specs.Touching.{solids_among};
-ghost use Rattle.arena_actions.specs.Indexes.{IsIndexOf};
+ghost use Rattle.box_strips.specs.Strips.{IsIndexOf};
 ghost use Rattle.arena_outcomes.specs.Outcomes as outcomes;
 
-use crate::boxes::Boxes;
+use crate::boxes::{Boxes, SolidIndex};
 use crate::looking::looked_at;
-use crate::solid_index::SolidIndex;
 use arena_geo::Aabb;
 use arena_map::{ArenaMap, MOST_BLOCKS};
 use box_trace::WALLS;

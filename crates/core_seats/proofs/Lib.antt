@@ -9,7 +9,6 @@ pub mod SlotBits
 pub mod ThingsLoaded
 pub mod SlotLists
 pub mod ThingPlaces
-pub mod PlaceBits
 pub mod NextThings
 pub mod Changing
 pub mod SoundViews

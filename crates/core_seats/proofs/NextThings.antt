@@ -5,7 +5,8 @@ use Rattle.arena_geo.specs.Bounds.{Bounds}
 use Rattle.arena_geo.specs.Regions.{touches_region}
 use Rattle.entity_recs.specs.declared.rec.Rec.{Rec}
 use Rattle.entity_recs.specs.Bodies.{abs_of}
-use Rattle.core_seats.specs.ThingBits.{has_place, IsNextPlace, AreMarked, AreApart}
+use Rattle.box_strips.specs.Places.{has_place, IsNextPlace}
+use Rattle.core_seats.specs.ThingBits.{AreMarked, AreApart}
 
 -- a thing without its bit isn't touched
 unmarked : (region : List Bounds) (things : List Rec) (bits : List ℕ) (k : ℕ) (d : Rec) → AreMarked region things bits → k < length things → has_place bits k ≡ false
@@ -17,14 +18,14 @@ unmarked region things bits k d marked within none = elim (cases_Bool (touches_r
 
 module _ (region : List Bounds) (things : List Rec) (bits : List ℕ) (from at : ℕ) (marked : AreMarked region things bits) (apart : AreApart region things from at) where
   -- up to the next bit
-  pub apart_to : (place : ℕ) → IsNextPlace bits at place → AreApart region things from place
+  pub apart_to : (place : ℕ) → IsNextPlace bits at (length things) place → AreApart region things from place
   apart_to place next k d least less within = elim (cases_lt k at) [
     | inl before ↦ apart k d least before within
     | inr after ↦ unmarked region things bits k d marked within (next.none k after less)
   ]
 
   -- the thing at the next bit isn't touched either
-  pub apart_past : (place : ℕ) → IsNextPlace bits at place → ((d : Rec) → touches_region (abs_of (get_or things place d)) region ≡ false) → AreApart region things from (place + 1)
+  pub apart_past : (place : ℕ) → IsNextPlace bits at (length things) place → ((d : Rec) → touches_region (abs_of (get_or things place d)) region ≡ false) → AreApart region things from (place + 1)
   apart_past place next not k d least less within = elim (cases_lt k place) [
     | inl before ↦ apart_to place next k d least before within
     | inr after ↦ let same : k ≡ place = omega (arith, less, after) in ap (λ (n : ℕ). touches_region (abs_of (get_or things n d)) region) same ∙ not d

@@ -1,31 +1,28 @@
 -- The things of the map at the start, and their states as they were loaded.
-use Rattle.std.proofs.Common.{◌≡◌, ◌≢◌, ℕ, zero, suc, ◌+◌, ◌-◌, ◌<◌, ◌≤◌, ◌==◌, Bool, true, false, ◌&&◌, ◌||◌, List, [], ◌∷◌, ◌++◌, length, get_or, take, drop, map, append-nil, refl, ap, sym, ◌∙◌, subst, inl, inr, arith}
-use Rattle.std.specs.Prelude.{filter, nat_le, Option, Some, if◌then◌else◌}
-use Rattle.std.specs.List.{filter_map, cons_option}
+use Rattle.std.proofs.Common.{◌≡◌, ◌≢◌, ℕ, zero, suc, ◌+◌, ◌-◌, ◌<◌, ◌≤◌, ◌==◌, Bool, true, false, ◌&&◌, List, [], ◌∷◌, ◌++◌, length, get_or, take, drop, map, append-nil, refl, ap, sym, ◌∙◌, subst, inl, inr, arith}
+use Rattle.std.specs.Prelude.{filter, nat_le, Option, Some, All, if◌then◌else◌}
+use Rattle.std.specs.List.{filter_map, cons_option, AllByRecursion}
 use Rattle.std.specs.List.Sorted.{IsStrictlyIncreasing}
 use Rattle.std.proofs.lemmas.Bool.{cases_Bool, cond-true, cond-false, eq-eqb, ne_eqb, leb-true}
 use Rattle.std.proofs.lemmas.List.{length-map, length-drop, take_all, take_more, drop_more}
-use Rattle.std.proofs.lemmas.List.Elements.{All-get_or, filter_map-append}
-use Rattle.arena_geo.specs.Bounds.{Bounds, IsOrdered}
+use Rattle.std.proofs.lemmas.List.Elements.{All-get_or, All-from_recursion, recursion_from_All, filter_map-append}
+use Rattle.arena_geo.specs.Bounds.{Bounds}
 use Rattle.arena_geo.specs.Regions.{touches_region}
 use Rattle.entity_recs.specs.declared.limits.TheConstants.{IDS}
 use Rattle.entity_recs.specs.declared.rec.Rec.{Rec}
 use Rattle.entity_recs.specs.declared.effect.NewState.{NewState}
 use Rattle.entity_recs.specs.Bodies.{abs_of}
-use Rattle.entity_recs.specs.Records.{with_state}
-use Rattle.core_steps.specs.Nodes.{Fixed, has}
+use Rattle.entity_recs.specs.Records.{with_state, IsRecord}
+use Rattle.core_steps.specs.Nodes.{Fixed}
 use Rattle.core_steps.specs.Reads.{state_at, thing_of, things_in}
 use Rattle.core_seats.specs.NearKept.{AreAtIds, AreThings, thing_with, records_touching, things_loaded}
 use Rattle.entity_recs.specs.Actions.{Meaning, HasValidity}
 use Rattle.entity_recs.proofs.Ids.{id_in}
-use Rattle.core_steps.specs.Stands.{IsLawful, IsStart}
+use Rattle.core_steps.specs.Stands.{IsStart}
 use Rattle.std.proofs.Math.ListN.{get_or-map}
-use Rattle.std.proofs.Math.Bool.{or-true}
-use Rattle.core_seats.specs.declared.strips.ThingIndex.{ThingIndex}
-use Rattle.core_seats.specs.ThingBits.{has_place, AreMarked}
-use Rattle.core_seats.specs.ThingStrips.{MarksThings}
-use Rattle.core_steps.proofs.Lists.{has_filter}
-use Rattle.core_steps.proofs.Runs.{live_ordered, start_world}
+use Rattle.box_strips.specs.Strips.{StripsView}
+use Rattle.core_seats.specs.ThingBits.{AreMarked}
+use Rattle.core_seats.specs.ThingStrips.{MarksBoxes, MarksThings}
 use Rattle.core_seats.specs.Shown.{RulesView, fixed_of, IsRuledWith}
 use Rattle.core_seats.proofs.NearLists.{AreFound, found_at_ids}
 use Rattle.core_seats.proofs.KeptNear.{IsBelowAll, AreRising, are_rising}
@@ -272,7 +269,7 @@ few_high meaning rules validity start =
     omega (arith, few, sized, same)
 
 -- the things at the start, where the records of players are left out
-pub are_things : {A : Type 0} (meaning : A → Meaning) (rules : RulesView A) (bits first : ℕ) (index : ThingIndex) → HasValidity (fixed_of meaning rules).takes (fixed_of meaning rules).effect_of
+pub are_things : {A : Type 0} (meaning : A → Meaning) (rules : RulesView A) (bits first : ℕ) (index : StripsView) → HasValidity (fixed_of meaning rules).takes (fixed_of meaning rules).effect_of
     → IsRuledWith (fixed_of meaning rules) rules.start bits first index → AreThings (fixed_of meaning rules) (drop first rules.start)
 are_things meaning rules bits first index validity ruled =
     let F = fixed_of meaning rules in
@@ -287,26 +284,6 @@ whole_rest n rs = let long = length-drop n rs in take_all (length rs - n) (drop 
 
 -- ---- the bits of things
 
--- a thing that touches the region is one of its things
-pub touching_has : (region : List Bounds) (rs : List Rec) (k : ℕ) (d : Rec) → k < length rs → touches_region (abs_of (get_or rs k d)) region ≡ true
-    → has (map (λ (r : Rec). r.id) (records_touching region rs)) (get_or rs k d).id ≡ true
-touching_has region [] k d there touch = absurd (omega (arith, there))
-touching_has region (r ∷ rs) zero d there touch =
-    ap (λ (b : Bool). has (map (λ (q : Rec). q.id) (if b then r ∷ records_touching region rs else records_touching region rs)) r.id) touch
-    ∙ ap (λ (b : Bool). b || has (map (λ (q : Rec). q.id) (records_touching region rs)) r.id) (eq-eqb r.id r.id refl)
-touching_has region (r ∷ rs) (suc k) d there touch = by_test (touches_region (abs_of r) region) (touching_has region rs k d (omega (arith, there)) touch)
-  where
-    by_test : (b : Bool) → has (map (λ (q : Rec). q.id) (records_touching region rs)) (get_or rs k d).id ≡ true
-        → has (map (λ (q : Rec). q.id) (if b then r ∷ records_touching region rs else records_touching region rs)) (get_or rs k d).id ≡ true
-    by_test true rest = ap (λ (b : Bool). (r.id == (get_or rs k d).id) || b) rest ∙ or-true (r.id == (get_or rs k d).id)
-    by_test false rest = rest
-
--- each of the records is where its id is
-at_id : (f : ℕ → Rec) (rs : List Rec) (k : ℕ) (d : Rec) → AreAtIds f rs → k < length rs → f (get_or rs k d).id ≡ get_or rs k d
-at_id f [] k d at there = absurd (omega (arith, there))
-at_id f (r ∷ rs) zero d at there = at.0
-at_id f (r ∷ rs) (suc k) d at there = at_id f rs k d at.1 (omega (arith, there))
-
 all_at_ids : (f : ℕ → Rec) (rs : List Rec) → AreAtIds f rs → map f (map (λ (r : Rec). r.id) rs) ≡ rs
 all_at_ids f [] at = refl
 all_at_ids f (r ∷ rs) at = ap (λ (q : Rec). q ∷ map f (map (λ (r : Rec). r.id) rs)) at.0 ∙ ap (λ (qs : List Rec). r ∷ qs) (all_at_ids f rs at.1)
@@ -317,16 +294,33 @@ same_things F one two a b =
     sym (all_at_ids F.start.record_of one a.found) ∙ ap (map F.start.record_of) (a.ids ∙ sym b.ids) ∙ all_at_ids F.start.record_of two b.found
 
 -- bits that the things have which a region touches
-pub things_marked : (F : Fixed) (things : List Rec) (region : List Bounds) (bits : List ℕ) → IsLawful F → IsStart F → AreThings F things
-    → ((k : ℕ) (d : Rec) → k < length things → IsOrdered (abs_of (get_or things k d)) → touches_region (abs_of (get_or things k d)) region ≡ true → has_place bits k ≡ true)
-    → MarksThings F region bits
-things_marked F things region bits lawful start are each others are_others =
+pub things_marked : (F : Fixed) (things : List Rec) (region : List Bounds) (bits : List ℕ) → AreThings F things → MarksBoxes (map abs_of things) region bits → MarksThings F region bits
+things_marked F things region bits are marks others are_others =
     subst (λ (xs : List Rec). AreMarked region xs bits) (same_things F things others are are_others) (record {
       few = let few = are.few in omega (arith, few);
       each = λ k d within touch.
-          let thing = get_or things k d in
-          let near : has (things_in F region) thing.id ≡ true = ap (λ (ids : List ℕ). has ids thing.id) (things_of_region F things region are) ∙ touching_has region things k d within touch in
-          let listed = (has_filter (λ id. nat_le 64 id && touches_region (abs_of (F.start.record_of id)) region) F.start.ids thing.id near).listed in
-          let ordered = live_ordered F F.start thing.id lawful (start_world F start) listed in
-          each k d within (subst (λ (r : Rec). IsOrdered (abs_of r)) (at_id F.start.record_of things k d are.found within) ordered) touch;
+          let long = length-map things abs_of in
+          marks k (abs_of d) (omega (arith, within, long)) (ap (λ (b : Bounds). touches_region b region) (get_or-map abs_of things k d) ∙ touch);
     })
+
+-- the records of the start are within their bounds
+all_found : (f : ℕ → Rec) (P : Rec → Type 0) (rs : List Rec) → AreFound f rs → AllByRecursion P (map f (map (λ (r : Rec). r.id) rs)) → AllByRecursion P rs
+all_found f P [] found all = all
+all_found f P (r ∷ rs) found all = (subst P found.0 all.0, all_found f P rs found.1 all.1)
+
+kept_by : (P Q : Rec → Type 0) (rs : List Rec) → ((r : Rec) → P r → Q r) → AllByRecursion P rs → AllByRecursion Q (filter (λ (r : Rec). nat_le 64 r.id) rs)
+kept_by P Q [] gives all = tt
+kept_by P Q (r ∷ rs) gives all = by_test (nat_le 64 r.id) (kept_by P Q rs gives all.1)
+  where
+    by_test : (b : Bool) → AllByRecursion Q (filter (λ (r : Rec). nat_le 64 r.id) rs) → AllByRecursion Q (if b then r ∷ filter (λ (r : Rec). nat_le 64 r.id) rs else filter (λ (r : Rec). nat_le 64 r.id) rs)
+    by_test true rest = (gives r all.0, rest)
+    by_test false rest = rest
+
+pub things_are_records : {A : Type 0} (meaning : A → Meaning) (rules : RulesView A) → HasValidity (fixed_of meaning rules).takes (fixed_of meaning rules).effect_of → IsStart (fixed_of meaning rules)
+    → All IsRecord (filter (λ (r : Rec). nat_le 64 r.id) rules.start)
+things_are_records meaning rules validity start =
+    let F = fixed_of meaning rules in
+    let taken : Rec → Type 0 = λ r. F.takes r ≡ true in
+    All-from_recursion IsRecord (filter (λ (r : Rec). nat_le 64 r.id) rules.start)
+    (kept_by taken IsRecord rules.start (λ r is. (validity.keepable r is).bounds)
+    (all_found F.start.record_of taken rules.start (found_at_ids rules.start start.rising) (recursion_from_All taken (map F.start.record_of F.start.ids) start.taken)))

@@ -1,4 +1,6 @@
 -- The seats of the pure core in code: how their plain fields are the views of the definitions.
+pub use Rattle.box_strips.specs.Places as PlaceBits
+pub use Rattle.box_strips.specs.Strips as BoxStrips
 pub use Rattle.core_steps.specs.Cells
 pub use Rattle.core_steps.specs.Nodes
 pub use Rattle.core_steps.specs.Points as CorePoints

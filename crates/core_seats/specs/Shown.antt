@@ -1,5 +1,5 @@
 -- What doesn't change in the core of the code, as the definitions have it.
-use Rattle.std.specs.Prelude.{◌≡◌, ◌<◌, ◌≤◌, ◌-◌, ℕ, nat_le, List, length, drop, filter}
+use Rattle.std.specs.Prelude.{◌≡◌, ◌<◌, ◌≤◌, ℕ, nat_le, List, length, drop, filter, map}
 use Rattle.areanode.specs.Words.{has_bit}
 use Rattle.areanode.specs.Trees.{TreeView, IsTreeDepth}
 use Rattle.entity_recs.specs.declared.rec.Rec.{Rec}
@@ -7,8 +7,8 @@ use Rattle.entity_recs.specs.Worlds.{world_of}
 use Rattle.entity_recs.specs.Actions.{Meaning}
 use Rattle.core_steps.specs.Nodes.{Fixed, has}
 use Rattle.core_steps.specs.Stands.{IsStart}
-use Rattle.core_seats.specs.declared.strips.ThingIndex.{ThingIndex}
-use Rattle.core_seats.specs.ThingStrips.{HasThings}
+use Rattle.box_strips.specs.Strips.{StripsView, IsIndexOf}
+use Rattle.entity_recs.specs.Bodies.{abs_of}
 
 -- an action, the tree, and the records of the world at the start
 pub record RulesView (A : Type 0) : Type 0 where
@@ -31,12 +31,12 @@ pub record IsRuled (F : Fixed) : Type 0 where
   pub depth : IsTreeDepth F.tree.depth
   pub start : IsStart F
 
--- the same, with the slots of the live players as the bits of a word, and the things of the map from a place on and by
--- strips
-pub record IsRuledWith (F : Fixed) (records : List Rec) (bits first : ℕ) (index : ThingIndex) : Type 0 where
+-- the same, with the slots of the live players as the bits of a word, and the things of the map from a place on, with an
+-- index of their absolute boxes
+pub record IsRuledWith (F : Fixed) (records : List Rec) (bits first : ℕ) (index : StripsView) : Type 0 where
   pub depth : IsTreeDepth F.tree.depth
   pub start : IsStart F
   pub slots : (slot : ℕ) → slot < 64 → has_bit bits slot ≡ has F.start.ids slot
   pub fits : first ≤ length records
   pub things : drop first records ≡ filter (λ (r : Rec). nat_le 64 r.id) records
-  pub placed : HasThings index (drop first records) (length records - first)
+  pub placed : IsIndexOf index (map abs_of (drop first records))

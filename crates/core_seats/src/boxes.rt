@@ -7,7 +7,7 @@ use arena_geo::{Aabb, Region, Vec3};
 use entity_recs::{Rec, growth};
 
 /// The low end of an absolute box on an axis.
-pub fn low_end(origin: i32, min: i32, by: i32) -> i64
+fn low_end(origin: i32, min: i32, by: i32) -> i64
     ensures { result ≡ (origin +ℤ min) -ℤ by }
 {
     let low = i64::from(origin) + i64::from(min);
@@ -15,7 +15,7 @@ pub fn low_end(origin: i32, min: i32, by: i32) -> i64
 }
 
 /// The high end of an absolute box on an axis.
-pub fn high_end(origin: i32, max: i32, by: i32) -> i64
+fn high_end(origin: i32, max: i32, by: i32) -> i64
     ensures { result ≡ (origin +ℤ max) +ℤ by }
 {
     let high = i64::from(origin) + i64::from(max);

@@ -36,7 +36,6 @@ mod records;
 mod refusals;
 mod rules;
 mod seat;
-mod strips;
 mod taking;
 mod thing_bits;
 mod thing_reads;

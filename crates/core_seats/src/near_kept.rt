@@ -10,7 +10,7 @@ use crate::boxes::touches_region;
 use crate::reading::read_record;
 use crate::rules::Rules;
 use crate::seat::LoadedPlayers;
-use crate::thing_bits::ThingBits;
+use crate::thing_bits::{ThingBits, near_things};
 use arena_geo::Region;
 use entity_recs::{Action, Rec};
 use world_tree::NearList;
@@ -157,6 +157,6 @@ impl<'a, A: Action> Rules<'a, A> {
     pub fn thing_bits(&self, region: &Region) -> ThingBits
         ensures { MarksThings (fixed_of A.meaning self.now) region.now result }
     {
-        self.index.near(region)
+        near_things(&self.index, region)
     }
 }

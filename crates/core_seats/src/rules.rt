@@ -8,7 +8,7 @@ use crate::point::NodeQueue;
 use crate::reading::read_record;
 use crate::records::find_record;
 use crate::seat::PlayerRead;
-use crate::strips::ThingIndex;
+use crate::thing_bits::{ThingIndex, index_of};
 use crate::thing_reads::ThingReads;
 use areanode::Tree;
 use arena_geo::Region;
@@ -85,13 +85,14 @@ impl<'a, A: Action> Rules<'a, A> {
     {
         has_its_depth(tree);
         let first_thing = count_players(start);
+        let index = index_of(alloc, &start[first_thing..])?;
         Ok(Rules {
             action,
             tree: *tree,
             start: Vec::from_slice(alloc, start)?,
             players: player_bits(start),
             first_thing,
-            index: ThingIndex::of_things(&start[first_thing..]),
+            index,
         })
     }
 

@@ -1,78 +1,71 @@
-ghost use Rattle.std.specs.Prelude.{◌≡◌, ◌<◌, ◌*◌, ◌%◌, ℕ, true, length, MatchOption};
-ghost use Rattle.core_seats.specs.ThingBits.{has_place, KeepsPlaces, NoBitFrom, IsNextBit, NoPlaceFrom, IsNextPlace};
+ghost use Rattle.std.specs.Prelude.{◌≡◌, ◌≤◌, ◌*◌, All, IfOk, List, length, map, MatchOption};
+ghost use Rattle.arena_geo.specs.Bounds.{Bounds};
+ghost use Rattle.entity_recs.specs.Records.{IsRecord};
+ghost use Rattle.entity_recs.specs.Bodies.{abs_of};
+ghost use Rattle.box_strips.specs.Strips.{IsIndexOf};
 ghost use Rattle.core_seats.specs.ThingBits.{AreMarked, AreApart, IsNextThing};
+ghost use Rattle.core_seats.specs.ThingStrips.{MarksBoxes};
 
 use crate::boxes::touches_region;
-use crate::near_kept::{lowest_bit, with_slot};
-use arena_geo::Region;
-use entity_recs::{IDS, Rec};
+use arena_geo::{Aabb, Region, Vec3};
+use box_strips::{BoxStrips, next_place};
+use entity_recs::{IDS, Rec, abs_box};
+use std::alloc::{AllocError, Global};
 
 /// How many words have a bit for each thing of the map.
 pub const THING_WORDS: usize = IDS / 64 - 1;
 
+/// How many strips the part of the arena with things is cut into along x, and along y.
+const THING_STRIPS: usize = 16;
+
 /// A bit for each thing of the map, by its place among them.
 pub type ThingBits = [u64; THING_WORDS];
 
-/// The bits with that of one more place.
-pub fn with_place(bits: ThingBits, place: usize) -> ThingBits
-    requires { place < 64 * THING_WORDS }
-    ensures set { has_place result place ≡ true }
-    ensures kept { KeepsPlaces bits result }
+/// An index over the absolute boxes of the things of the map.
+pub type ThingIndex = BoxStrips<THING_STRIPS, THING_WORDS>;
+
+/// The absolute boxes of these records.
+fn abs_boxes(alloc: Global, records: &[Rec]) -> Result<Vec<Aabb>, AllocError>
+    requires { All IsRecord records.now }
+    ensures { IfOk result (λ boxes. boxes.items ≡ map abs_of records.now) }
 {
-    let mut more = bits;
-    let word = place / 64;
-    more[word] = with_slot(more[word], (place % 64) as u16);
-    more
+    let mut boxes = Vec::with_capacity(alloc, records.len())?;
+    for r in records {
+        boxes.push(abs_box(r))?;
+    }
+    Ok(boxes)
 }
 
-/// The bits that both have.
-pub fn both(one: &ThingBits, other: &ThingBits) -> ThingBits
-    ensures { (place : ℕ) → has_place one.now place ≡ true → has_place other.now place ≡ true
-        → has_place result place ≡ true }
+/// The least box that has these boxes and the middle of the arena in it.
+fn area_of(boxes: &[Aabb]) -> Aabb {
+    let mut area = Aabb::from_corners(Vec3::ZERO, Vec3::ZERO);
+    for one in boxes {
+        area = area.hull(one);
+    }
+    area
+}
+
+/// The index of these things.
+pub fn index_of(alloc: Global, things: &[Rec]) -> Result<ThingIndex, AllocError>
+    requires records { All IsRecord things.now }
+    requires few { length things.now ≤ 64 * THING_WORDS }
+    ensures { IfOk result (λ index. IsIndexOf index (map abs_of things.now)) }
 {
-    let mut bits = *one;
-    for word in 0..THING_WORDS {
-        bits[word] &= other[word];
+    let boxes = abs_boxes(alloc, things)?;
+    let area = area_of(boxes.as_slice());
+    Ok(ThingIndex::of(&area, boxes.as_slice()))
+}
+
+/// The bits of the things that lie near a box of a region: those of all that touch it.
+pub fn near_things(index: &ThingIndex, region: &Region) -> ThingBits
+    ensures { (boxes : List Bounds) → IsIndexOf index.now boxes → MarksBoxes boxes region.now result }
+{
+    let mut bits = [0; THING_WORDS];
+    let boxes = region.boxes();
+    for one in boxes {
+        index.mark_near(one, &mut bits);
     }
     bits
-}
-
-/// The bits that one of them has.
-pub fn either(one: &ThingBits, other: &ThingBits) -> ThingBits
-    ensures one { KeepsPlaces one.now result }
-    ensures other { KeepsPlaces other.now result }
-{
-    let mut bits = *one;
-    for word in 0..THING_WORDS {
-        bits[word] |= other[word];
-    }
-    bits
-}
-
-/// The first bit of a word from this one on that is set.
-fn next_bit(word: u64, from: u8) -> Option<u8>
-    requires { from < 64 }
-    ensures { MatchOption result (NoBitFrom word from) (IsNextBit word from) }
-{
-    let rest = word >> from;
-    if rest == 0 {
-        return None;
-    }
-    Some(from + lowest_bit(rest))
-}
-
-/// The first place from this one on whose bit is set.
-fn next_place(bits: &ThingBits, from: usize) -> Option<usize>
-    ensures { MatchOption result (NoPlaceFrom bits.now from) (IsNextPlace bits.now from) }
-{
-    let mut at = from;
-    while at < 64 * THING_WORDS {
-        if let Some(bit) = next_bit(bits[at / 64], (at % 64) as u8) {
-            return Some(at / 64 * 64 + usize::from(bit));
-        }
-        at = (at / 64 + 1) * 64;
-    }
-    None
 }
 
 /// The place of the first of these things, from a place on, that touches a region, where these are bits of all that do.
@@ -82,10 +75,7 @@ pub fn next_thing(things: &[Rec], bits: &ThingBits, region: &Region, from: usize
         (IsNextThing region.now things.now from) }
 {
     let mut at = from;
-    while let Some(place) = next_place(bits, at) {
-        if place >= things.len() {
-            return None;
-        }
+    while let Some(place) = next_place(bits, at, things.len()) {
         if touches_region(&things[place], region) {
             return Some(place);
         }

@@ -15,7 +15,7 @@ loop-place-preserved c =
       least = up c.args.from c.loop-place.at place c.loop-place.invariant.least next.least;
       apart = apart_past region things c.args.bits.now c.args.from c.loop-place.at c.requires c.loop-place.invariant.apart place next
           (λ d.
-          ap (λ (r : Rec). touches_region (abs_of r) region) (any_else things place d _ (omega (arith, c.if-place-things.false)))
+          ap (λ (r : Rec). touches_region (abs_of r) region) (any_else things place d _ next.within)
           ∙ sym c.if-touches_region.ensures);
     }
   where

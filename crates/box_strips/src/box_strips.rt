@@ -1,0 +1,65 @@
+use crate::axis::Axis;
+use crate::bits::add_common;
+use arena_geo::Aabb;
+use std::marker::Model;
+
+/// An index over a list of at most `64 * W` boxes, by at most `S` strips of an area along x and as many along y. It misses
+/// none of them. That few others are found is claimed by no clause.
+#[derive(Drop)]
+pub struct BoxStrips<const S: usize, const W: usize> {
+    x: Axis<S, W>,
+    y: Axis<S, W>,
+}
+
+impl<const S: usize, const W: usize> Model for BoxStrips<S, W> {
+    ghost use Rattle.box_strips.specs.Strips.{StripsView};
+
+    ghost Value = { StripsView };
+
+    ghost view = { λ s. record { x = s.x; y = s.y } };
+}
+
+impl<const S: usize, const W: usize> BoxStrips<S, W> {
+    ghost use Rattle.std.specs.Prelude.{◌<◌, ◌≤◌, ◌*◌, List, length};
+    ghost use Rattle.arena_geo.specs.Bounds.{Bounds};
+    ghost use Rattle.box_strips.specs.Places.{KeepsPlaces};
+    ghost use Rattle.box_strips.specs.Strips.{IsIndexOf, AreMarked};
+
+    /// The index of these boxes by strips of an area. Boxes may lie outside of it.
+    pub fn of(area: &Aabb, boxes: &[Aabb]) -> Self
+        requires strips { 0 < S }
+        requires boxes { length boxes.now ≤ 64 * W }
+        ensures { IsIndexOf result boxes.now }
+    {
+        let lo = area.lo();
+        let hi = area.hi();
+        let mut x = Axis::between(lo.x, hi.x);
+        let mut y = Axis::between(lo.y, hi.y);
+        for (place, one) in boxes.iter().enumerate() {
+            let lo = one.lo();
+            let hi = one.hi();
+            x.put(place, lo.x, hi.x);
+            y.put(place, lo.y, hi.y);
+        }
+        x.spread();
+        y.spread();
+        BoxStrips { x, y }
+    }
+
+    /// Sets the bits of the boxes that may touch `one`, by their places in the list: of all that touch it, and of others
+    /// that lie near it.
+    pub fn mark_near(&self, one: &Aabb, bits: &mut [u64; W])
+        ensures kept { KeepsPlaces bits.old bits.new }
+        ensures marked { (boxes : List Bounds) → IsIndexOf self.now boxes → AreMarked boxes one.now bits.new }
+    {
+        let lo = one.lo();
+        let hi = one.hi();
+        add_common(
+            bits,
+            self.x.begun_by(hi.x),
+            self.x.ended_from(lo.x),
+            self.y.begun_by(hi.y),
+            self.y.ended_from(lo.y),
+        );
+    }
+}
