@@ -55,7 +55,7 @@ module _ {S K : Type 0} (s : sources.Ghosts S) (k : sinks.Ghosts K) (texts : Tex
   -- what holds where the playing ended so, and this is the last frame that was run
   abbrev pub PlaysTo : Result Unit Stop → Type 0
   PlaysTo (Ok done) = PlaysAll
-  PlaysTo (Err (Refused line fault rule)) = StopsAtRefusal (record { line = line; fault = fault; rule = rule })
+  PlaysTo (Err (Refused why)) = StopsAtRefusal why
   PlaysTo (Err ReadFault) = StopsAtReadFault
   PlaysTo (Err WriteFault) = StopsAtWriteFault
   PlaysTo (Err NoMemory) = StopsAtMemory

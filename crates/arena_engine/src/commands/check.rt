@@ -10,6 +10,7 @@ ghost use Rattle.arena_engine.specs.Summaries.{right_text};
 
 use crate::report::Report;
 use crate::status::Status;
+use crate::stop::Stop;
 use crate::summary::push_right;
 use demo_lines::{DemoReader, DemoStop};
 use edge_io::{LineBuf, Sink, Source, write_whole};
@@ -68,10 +69,6 @@ pub fn check_transcript<S: Source, K: Sink>(alloc: Global, source: &mut S, sink:
     match verdict_of(alloc, source) {
         Ok(Verdict::Right { frames, moves }) => write_right(alloc, frames, moves, &mut line, sink),
         Ok(Verdict::Wrong { line }) => Report::of_wrong_line(alloc, line),
-        Err(DemoStop::Refused { line, fault, rule }) => {
-            Report::of_refusal(line, fault, rule, None, JournalList::new(alloc))
-        }
-        Err(DemoStop::ReadFault) => Report::of_status_alone(alloc, Status::ReadFault),
-        Err(DemoStop::NoMemory) => Report::of_status_alone(alloc, Status::NoMemory),
+        Err(stop) => Report::of_stop(Stop::from(stop), None, JournalList::new(alloc)),
     }
 }
