@@ -36,6 +36,7 @@ pub mod Summaries
 pub mod Laws
 pub mod Endings
 pub mod Making
+pub mod Explained
 pub mod Feedings
 pub mod Games
 pub mod StopOf

@@ -2,6 +2,7 @@
 
 pub(crate) mod bots;
 pub(crate) mod check;
+pub(crate) mod explain;
 pub(crate) mod make;
 pub(crate) mod match_seed;
 pub(crate) mod play;

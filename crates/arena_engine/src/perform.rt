@@ -7,6 +7,7 @@ ghost use Rattle.move_phase.specs.Serving.{AreWorkers};
 use crate::command::Command;
 use crate::commands::bots::plan_recording;
 use crate::commands::check::check_transcript;
+use crate::commands::explain::{HELP, VERSION, explain};
 use crate::commands::make::{write_made, write_resent};
 use crate::commands::match_seed::play_and_sum;
 use crate::commands::play::{feed_recording, play_recording};
@@ -90,5 +91,7 @@ pub fn perform<R: Threads + Wait + Sync, S: Source, K: Sink, G: Gate>(
         }
         Some(Command::Check) => check_transcript(alloc, source, sink),
         Some(Command::Bots { target }) => plan_recording(alloc, target, source, sink),
+        Some(Command::Help) => explain(alloc, HELP, sink),
+        Some(Command::Version) => explain(alloc, VERSION, sink),
     }
 }
