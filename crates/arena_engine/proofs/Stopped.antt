@@ -4,13 +4,10 @@ use Rattle.std.specs.Prelude.{IsSomeAnd}
 use Rattle.edge_io.specs.declared.source.Source as sources
 use Rattle.edge_io.specs.declared.sink.Sink as sinks
 use Rattle.edge_io.specs.Counts.{HasRisen}
-use Rattle.demo_lines.specs.Bytes.{LineRefusal, fault, fault_within}
+use Rattle.demo_lines.specs.Bytes.{LineRefusal, fault}
 use Rattle.demo_lines.specs.declared.demo_stop.DemoStop.{DemoStop}
 use Rattle.demo_lines.specs.declared.demo_stop.DemoStop.TheVariants.{Refused, ReadFault, NoMemory}
-use Rattle.transcript_check.specs.Verdicts.{StopsChecking}
-use Rattle.arena_engine.specs.declared.commands.check.TheConstants.{MOST_CHECKED_FRAMES}
 use Rattle.arena_engine.specs.declared.report.Report.{Report}
-use Rattle.arena_engine.specs.Checked.{IsChecked}
 use Rattle.arena_engine.specs.Endings.{Ends}
 use Rattle.arena_engine.specs.MapReads.{GivesStop}
 use Rattle.arena_engine.specs.Planned.{IsPlanned}
@@ -19,27 +16,27 @@ use Rattle.arena_engine.specs.StopOf.{stop_of}
 use Rattle.arena_engine.proofs.Reported.{ends_of, placeless, uncounted_in, counted_in}
 
 -- what has a fault isn't without one
-not-faultless : (o : Option (List ℕ)) (of : List ℕ → Option LineRefusal) (why : LineRefusal) → IfSome o (λ bytes. of bytes ≡ Some why) → IsSomeAnd o (λ bytes. of bytes ≡ None) → ⊥
+pub not-faultless : (o : Option (List ℕ)) (of : List ℕ → Option LineRefusal) (why : LineRefusal) → IfSome o (λ bytes. of bytes ≡ Some why) → IsSomeAnd o (λ bytes. of bytes ≡ None) → ⊥
 not-faultless None of why faulty none = absurd none
 not-faultless (Some bytes) of why faulty none = cc
 
 module _ {S K : Type 0} (s : sources.Ghosts S) (k : sinks.Ghosts K) (source source' : S) (sink : K) (r : Report) where
   -- ---- what holds of every command
 
-  refusal-ends : r.status ≡ 1 → s.faults source' ≡ s.faults source → Ends s k source source' sink sink r
+  pub refusal-ends : r.status ≡ 1 → s.faults source' ≡ s.faults source → Ends s k source source' sink sink r
   refusal-ends status same =
       ends_of s k 1 source source' sink sink r (omega (arith, status)) (λ is. omega (arith, is, status)) (λ no. absurd (no status))
       (uncounted_in 3 _ _ r.status same (λ is. omega (arith, is, status))) (uncounted_in 4 _ _ r.status refl (λ is. omega (arith, is, status)))
       (λ is. absurd (omega (arith, is, status))) (λ sure is. omega (arith, is, status))
 
-  read-fault-ends : r.status ≡ 3 → refusal_of r ≡ record { line = 0; fault = 0; rule = 0 } → s.ended source' ≡ s.ended source → HasRisen (s.faults source) (s.faults source') → s.faults source ≤ s.faults source'
+  pub read-fault-ends : r.status ≡ 3 → refusal_of r ≡ record { line = 0; fault = 0; rule = 0 } → s.ended source' ≡ s.ended source → HasRisen (s.faults source) (s.faults source') → s.faults source ≤ s.faults source'
       → (s.never_fails source → ⊥) → Ends s k source source' sink sink r
   read-fault-ends status place before_end risen later fails =
       ends_of s k 1 source source' sink sink r (omega (arith, status)) (λ is. omega (arith, is, status)) (λ no. placeless r place)
       (counted_in 3 _ _ r.status status later risen) (uncounted_in 4 _ _ r.status refl (λ is. omega (arith, is, status)))
       (λ is. before_end) (λ sure is. fails sure)
 
-  memory-ends : r.status ≡ 5 → refusal_of r ≡ record { line = 0; fault = 0; rule = 0 } → s.faults source' ≡ s.faults source → Ends s k source source' sink sink r
+  pub memory-ends : r.status ≡ 5 → refusal_of r ≡ record { line = 0; fault = 0; rule = 0 } → s.faults source' ≡ s.faults source → Ends s k source source' sink sink r
   memory-ends status place same =
       ends_of s k 1 source source' sink sink r (omega (arith, status)) (λ is. omega (arith, is, status)) (λ no. placeless r place)
       (uncounted_in 3 _ _ r.status same (λ is. omega (arith, is, status))) (uncounted_in 4 _ _ r.status refl (λ is. omega (arith, is, status)))
@@ -102,64 +99,6 @@ module _ {S K : Type 0} (s : sources.Ghosts S) (k : sinks.Ghosts K) (source sour
       no_journals = all;
       sure_writes = λ room is. omega (arith, is, status);
       sure_longest = λ room is. omega (arith, is, status);
-      complete = λ none nothing. inl (inl status);
-      complete_refusal = λ some nothing. inl status;
-    }
-
-  -- ---- one that is read to be checked
-
-  pub check-ends : (d : DemoStop) → StopsChecking s MOST_CHECKED_FRAMES source source' d → r.status ≡ status_of (Err (stop_of d)) → refusal_of r ≡ place_of (Err (stop_of d)) → Ends s k source source' sink sink r
-  check-ends (Refused line rule_fault rule) stops status place = refusal-ends status stops.reads
-  check-ends ReadFault stops status place = read-fault-ends status place stops.before_end stops.fault stops.later stops.fails
-  check-ends NoMemory stops status place = memory-ends status place stops.reads
-
-  module _ (last : r.last ≡ None) (all : r.all ≡ []) where
-    pub stop-checked : (d : DemoStop) → StopsChecking s MOST_CHECKED_FRAMES source source' d → r.status ≡ status_of (Err (stop_of d)) → refusal_of r ≡ place_of (Err (stop_of d)) → IsChecked s k source source' sink sink r
-    stop-checked (Refused line rule_fault rule) stops status place = record {
-      known = omega (arith, status);
-      done = λ is. absurd (omega (arith, is, status));
-      read = λ is. absurd (omega (arith, is, status));
-      wrong = λ is. absurd (omega (arith, is, status));
-      wrong_read = λ is. absurd (omega (arith, is, status));
-      refused = λ is. subst (λ (why : LineRefusal). IfSome (s.left source) (λ bytes. fault_within MOST_CHECKED_FRAMES bytes ≡ Some why)) (sym place) stops.faulty;
-      refused_read = λ is. stops.read;
-      cut = λ is. absurd (omega (arith, is, status));
-      nothing = λ is. refl;
-      no_frame = last;
-      no_journals = all;
-      sure_writes = λ room is. omega (arith, is, status);
-      complete = λ none nothing. absurd (not-faultless (s.left source) (fault_within MOST_CHECKED_FRAMES) _ stops.faulty none);
-      complete_refusal = λ some nothing. inr status;
-    }
-    stop-checked ReadFault stops status place = record {
-      known = omega (arith, status);
-      done = λ is. absurd (omega (arith, is, status));
-      read = λ is. absurd (omega (arith, is, status));
-      wrong = λ is. absurd (omega (arith, is, status));
-      wrong_read = λ is. absurd (omega (arith, is, status));
-      refused = λ is. absurd (omega (arith, is, status));
-      refused_read = λ is. absurd (omega (arith, is, status));
-      cut = λ is. absurd (omega (arith, is, status));
-      nothing = λ is. refl;
-      no_frame = last;
-      no_journals = all;
-      sure_writes = λ room is. omega (arith, is, status);
-      complete = λ none nothing. absurd (nothing.reading stops.fault);
-      complete_refusal = λ some nothing. absurd (nothing.reading stops.fault);
-    }
-    stop-checked NoMemory stops status place = record {
-      known = omega (arith, status);
-      done = λ is. absurd (omega (arith, is, status));
-      read = λ is. absurd (omega (arith, is, status));
-      wrong = λ is. absurd (omega (arith, is, status));
-      wrong_read = λ is. absurd (omega (arith, is, status));
-      refused = λ is. absurd (omega (arith, is, status));
-      refused_read = λ is. absurd (omega (arith, is, status));
-      cut = λ is. absurd (omega (arith, is, status));
-      nothing = λ is. refl;
-      no_frame = last;
-      no_journals = all;
-      sure_writes = λ room is. omega (arith, is, status);
       complete = λ none nothing. inl (inl status);
       complete_refusal = λ some nothing. inl status;
     }

@@ -5,7 +5,7 @@ use Rattle.move_phase.specs.Serving.{AreWorkers}
 use Rattle.demo_make.specs.GeneratedFrames.{IsInRange}
 use Rattle.match_play.specs.Matches.{IsMatch}
 use Rattle.arena_engine.specs.declared.command.Command.{Command}
-use Rattle.arena_engine.specs.declared.command.Command.TheVariants.{Play, Feed, Make, Resend, Match, Bots, Check, Help, Version}
+use Rattle.arena_engine.specs.declared.command.Command.TheVariants.{Play, Feed, Make, Resend, Match, Bots, Check, Audit, Help, Version}
 
 -- the texts of words
 abbrev pub contents : List (Bor (List ℕ)) → List (List ℕ)
@@ -23,6 +23,7 @@ words_of (Match seed players frames workers) =
     codes "match" ∷ decimal seed ∷ decimal players ∷ decimal frames ∷ decimal workers ∷ []
 words_of (Bots target) = codes "bots" ∷ decimal target ∷ []
 words_of Check = codes "check" ∷ []
+words_of Audit = codes "audit" ∷ []
 words_of Help = codes "help" ∷ []
 words_of Version = codes "version" ∷ []
 
@@ -49,6 +50,7 @@ HasRanges (Resend seed players frames) = IsSeed seed × IsInRange players frames
 HasRanges (Match seed players frames workers) = IsSeed seed × IsMatch players frames × AreWorkers workers
 HasRanges (Bots target) = IsTarget target
 HasRanges Check = ⊤
+HasRanges Audit = ⊤
 HasRanges Help = ⊤
 HasRanges Version = ⊤
 

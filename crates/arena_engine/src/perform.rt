@@ -5,6 +5,7 @@ ghost use Rattle.arena_engine.specs.Served.{IsServed, HasNoOrder};
 ghost use Rattle.move_phase.specs.Serving.{AreWorkers};
 
 use crate::command::Command;
+use crate::commands::audit::audit_log;
 use crate::commands::bots::plan_recording;
 use crate::commands::check::check_transcript;
 use crate::commands::explain::{HELP, VERSION, explain};
@@ -90,6 +91,7 @@ pub fn perform<R: Threads + Wait + Sync, S: Source, K: Sink, G: Gate>(
             play_and_sum(&host, seed, players, frames, sink)
         }
         Some(Command::Check) => check_transcript(alloc, source, sink),
+        Some(Command::Audit) => audit_log(alloc, source, sink),
         Some(Command::Bots { target }) => plan_recording(alloc, target, source, sink),
         Some(Command::Help) => explain(alloc, HELP, sink),
         Some(Command::Version) => explain(alloc, VERSION, sink),

@@ -21,6 +21,9 @@ bots TARGET                  reads a recording, and writes one in which a bot
                              walks the shortest way to spawn TARGET
 check                        reads a recording and what follows it, and says
                              whether that is its output
+audit                        reads the lines of a map and the log of a match
+                             after it, as feed writes it, and says whether it
+                             is right
 help, --help                 writes this
 version, --version           writes the version, and the kit it was proved with
 
@@ -34,15 +37,14 @@ status  meaning               line on standard error
 3       a read failed         read fault
 4       a write failed        write fault
 5       not enough memory     out of memory
-6       wrong output          transcript refused: line L
+6       wrong output or log   transcript refused: line L
 7       no way to the spawn   no way: fault F
 
 Read on in README.md; docs/FORMATS.md has the formats and the faults.
 ";
 
 /// What `version` writes: the program's version, and the kit that it was proved with.
-pub const VERSION: &[u8] =
-    b"arena_cli 1.0.0, proved with rattle-kit-13f logic dac8208d650f15bf\n";
+pub const VERSION: &[u8] = b"arena_cli 1.0.0, proved with rattle-kit-13f logic dac8208d650f15bf\n";
 
 /// Writes a text that explains the program.
 pub fn explain<K: Sink>(alloc: Global, text: &[u8], sink: &mut K) -> Report
