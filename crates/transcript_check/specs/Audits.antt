@@ -1,20 +1,22 @@
 -- What the lines of a map and the log of a match after it were found to be.
-use Rattle.std.specs.Prelude.{◌≡◌, ℕ, ◌+◌, true, List, [], ◌∷◌, ◌++◌, length, Option, Some, None, IfSome}
+use Rattle.std.specs.Prelude.{◌≡◌, ℕ, ◌+◌, ◌<◌, true, List, [], ◌∷◌, ◌++◌, length, Option, Some, None, IfSome}
 use Rattle.std.specs.Io.KnownBytes.{Consumes}
 use Rattle.edge_io.specs.declared.source.Source as sources
 use Rattle.entity_recs.specs.declared.effect.Entry.{Entry}
-use Rattle.arena_map.specs.Maps.{MapView}
+use Rattle.arena_map.specs.declared.limits.TheConstants.{MOST_FRAMES}
+use Rattle.arena_map.specs.Maps.{MapView, is_ready}
 use Rattle.packet_read.specs.declared.arrival.Arrival.{Arrival}
 use Rattle.plain_server.specs.RecordsById.{opening}
 use Rattle.plain_server.specs.Frames.{AreRight}
 use Rattle.demo_lines.specs.Bytes.{fault_within, map_within}
 use Rattle.demo_lines.specs.Spelling.{IsRecording}
-use Rattle.out_text.specs.OutLines.{OutLine, EndLine, text_of}
+use Rattle.out_text.specs.OutLines.{OutLine, FrameLine, EndLine, line_spelling, text_of}
 use Rattle.out_text.specs.Feeds.{fed_lines}
 use Rattle.out_text.specs.Transcripts.{run_moves}
 use Rattle.out_text.specs.MatchLogs.{IsLog, IsWrongLogAfter}
 use Rattle.transcript_check.specs.declared.verdict.Verdict.{Verdict}
 use Rattle.transcript_check.specs.declared.verdict.Verdict.TheVariants.{Right, Wrong}
+use Rattle.transcript_check.specs.Checkers.{CheckerView}
 use Rattle.transcript_check.specs.Reading.{TakesBeginning}
 use Rattle.transcript_check.specs.Looked.{ReadsTranscript}
 use Rattle.transcript_check.specs.Verdicts.{HasEndAt}
@@ -36,6 +38,12 @@ pub record IsWrongLogAt (map : MapView) (log : List ℕ) (before line : ℕ) : T
 abbrev pub IsLogVerdict : MapView → List ℕ → ℕ → Verdict → Type 0
 IsLogVerdict map log before (Right count moves) = IsRightLog map log count moves
 IsLogVerdict map log before (Wrong line) = IsWrongLogAt map log before line
+
+-- the line opens the next frame after those of a checker, and one more may come
+pub record OpensFrame (c : CheckerView) (line : List ℕ) : Type 0 where
+  pub few : c.frames < MOST_FRAMES
+  pub ready : is_ready c.map ≡ true
+  pub is : line ≡ line_spelling (FrameLine c.frames)
 
 -- the bytes are a recording without a fault that may have no frame, so the lines of a map and the line `end`, which is
 -- that of this number, and then a log with this verdict. A line `frame` among those of the map is one more than there may

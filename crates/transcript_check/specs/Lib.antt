@@ -9,6 +9,7 @@ pub use Rattle.out_text.specs.MatchLogs
 pub mod Reading
 pub mod Checkers
 pub mod Pieces
+pub mod Packets
 pub mod Moves
 pub mod Looked
 pub mod Verdicts

@@ -24,6 +24,7 @@ fn compare<S: Source>(
 ) -> Result<Verdict, DemoStop>
     requires new { checker.old ≡ new_checker checker.old.map checker.old.input }
     requires first { checker.old.input.count ≡ 0 }
+    requires free { checker.old.input.held ≡ false }
     requires is { IsChecker checker.old.map checker.old.state }
     requires few { length frames.now ≤ MOST_FRAMES }
     requires short { AllByRecursion IsShort (map (λ arrivals. arrivals.items) frames.now) }

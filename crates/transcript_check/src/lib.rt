@@ -18,6 +18,7 @@ mod laws;
 mod lines;
 mod mover;
 mod other_list;
+mod packets;
 mod pending;
 mod recorded;
 mod verdict;
