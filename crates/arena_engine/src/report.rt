@@ -11,8 +11,8 @@ pub struct Report {
     /// The status, which the program ends with: 0 done, 1 recording refused, 2 words refused, 3 read fault, 4 write
     /// fault, 5 lack of memory, 6 transcript refused, 7 no way.
     pub status: u8,
-    /// The number of the refused line, from 1; of a transcript that is wrong, that of the first line of its first wrong
-    /// piece, in the whole input; 0 for every other status.
+    /// The number of the refused line, from 1; of a transcript or log that is wrong, that of the first line of its first
+    /// wrong piece, in the whole input; 0 for every other status.
     pub line: u64,
     /// The refused line's fault, 1 to 10; where there is no way 1 if the map has no such spawn, and 2 if no walk leads to
     /// it; 0 for every other status.
