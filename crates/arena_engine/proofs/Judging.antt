@@ -1,9 +1,8 @@
 -- What the report says of an input that was judged.
-use Rattle.std.proofs.Common.{◌≡◌, ◌≤◌, ◌⊎◌, inl, inr, ℕ, List, [], Option, Some, None, Result, Ok, Err, IfSome, IsSome, refl, sym, subst, arith}
+use Rattle.std.proofs.Common.{◌≡◌, ◌⊎◌, inl, inr, ℕ, List, Option, Some, None, Result, Ok, Err, IfSome, IsSome, refl, sym, subst, arith}
 use Rattle.std.specs.Prelude.{IsSomeAnd, IfOk, IfErr}
 use Rattle.edge_io.specs.declared.source.Source as sources
 use Rattle.edge_io.specs.declared.sink.Sink as sinks
-use Rattle.edge_io.specs.Counts.{HasRisen}
 use Rattle.demo_lines.specs.Bytes.{LineRefusal, fault_within}
 use Rattle.demo_lines.specs.declared.demo_stop.DemoStop.{DemoStop}
 use Rattle.demo_lines.specs.declared.demo_stop.DemoStop.TheVariants.{Refused, ReadFault, NoMemory}
@@ -99,54 +98,60 @@ module _ {S K : Type 0} (s : sources.Ghosts S) (k : sinks.Ghosts K) (limit : ℕ
 
   -- the reader stopped
   stop-judged : (d : DemoStop) → StopsChecking s limit source source' d → ReportsStop k sink sink r d → IsJudgedBy s k limit Judged ReadsRight ReadsWrong source source' sink sink r
-  stop-judged (Refused line rule_fault rule) stops reported = record {
-    known = omega (arith, reported.status);
-    done = λ st. absurd (omega (arith, reported.status, st));
-    read = λ st. absurd (omega (arith, reported.status, st));
-    wrong = λ st. absurd (omega (arith, reported.status, st));
-    wrong_read = λ st. absurd (omega (arith, reported.status, st));
-    refused = λ st. subst (λ (why : LineRefusal). IfSome (s.left source) (λ bytes. fault_within limit bytes ≡ Some why)) (sym reported.place) stops.faulty;
-    refused_read = λ st. stops.read;
-    cut = λ st. absurd (omega (arith, reported.status, st));
-    nothing = λ st. refl;
-    no_frame = reported.last;
-    no_journals = reported.all;
-    sure_writes = λ room st. omega (arith, reported.status, st);
-    complete = λ none failed. absurd (not-faultless (s.left source) (fault_within limit) _ stops.faulty none);
-    complete_refusal = λ some failed. inr reported.status;
-  }
-  stop-judged ReadFault stops reported = record {
-    known = omega (arith, reported.status);
-    done = λ st. absurd (omega (arith, reported.status, st));
-    read = λ st. absurd (omega (arith, reported.status, st));
-    wrong = λ st. absurd (omega (arith, reported.status, st));
-    wrong_read = λ st. absurd (omega (arith, reported.status, st));
-    refused = λ st. absurd (omega (arith, reported.status, st));
-    refused_read = λ st. absurd (omega (arith, reported.status, st));
-    cut = λ st. absurd (omega (arith, reported.status, st));
-    nothing = λ st. refl;
-    no_frame = reported.last;
-    no_journals = reported.all;
-    sure_writes = λ room st. omega (arith, reported.status, st);
-    complete = λ none failed. absurd (failed.reading stops.fault);
-    complete_refusal = λ some failed. absurd (failed.reading stops.fault);
-  }
-  stop-judged NoMemory stops reported = record {
-    known = omega (arith, reported.status);
-    done = λ st. absurd (omega (arith, reported.status, st));
-    read = λ st. absurd (omega (arith, reported.status, st));
-    wrong = λ st. absurd (omega (arith, reported.status, st));
-    wrong_read = λ st. absurd (omega (arith, reported.status, st));
-    refused = λ st. absurd (omega (arith, reported.status, st));
-    refused_read = λ st. absurd (omega (arith, reported.status, st));
-    cut = λ st. absurd (omega (arith, reported.status, st));
-    nothing = λ st. refl;
-    no_frame = reported.last;
-    no_journals = reported.all;
-    sure_writes = λ room st. omega (arith, reported.status, st);
-    complete = λ none failed. inl (inl reported.status);
-    complete_refusal = λ some failed. inl reported.status;
-  }
+  stop-judged (Refused line rule_fault rule) stops reported =
+      let status : r.status ≡ 1 = reported.status in
+      record {
+        known = omega (arith, status);
+        done = λ st. absurd (omega (arith, status, st));
+        read = λ st. absurd (omega (arith, status, st));
+        wrong = λ st. absurd (omega (arith, status, st));
+        wrong_read = λ st. absurd (omega (arith, status, st));
+        refused = λ st. subst (λ (why : LineRefusal). IfSome (s.left source) (λ bytes. fault_within limit bytes ≡ Some why)) (sym reported.place) stops.faulty;
+        refused_read = λ st. stops.read;
+        cut = λ st. absurd (omega (arith, status, st));
+        nothing = λ st. refl;
+        no_frame = reported.last;
+        no_journals = reported.all;
+        sure_writes = λ room st. omega (arith, status, st);
+        complete = λ none failed. absurd (not-faultless (s.left source) (fault_within limit) _ stops.faulty none);
+        complete_refusal = λ some failed. inr status;
+      }
+  stop-judged ReadFault stops reported =
+      let status : r.status ≡ 3 = reported.status in
+      record {
+        known = omega (arith, status);
+        done = λ st. absurd (omega (arith, status, st));
+        read = λ st. absurd (omega (arith, status, st));
+        wrong = λ st. absurd (omega (arith, status, st));
+        wrong_read = λ st. absurd (omega (arith, status, st));
+        refused = λ st. absurd (omega (arith, status, st));
+        refused_read = λ st. absurd (omega (arith, status, st));
+        cut = λ st. absurd (omega (arith, status, st));
+        nothing = λ st. refl;
+        no_frame = reported.last;
+        no_journals = reported.all;
+        sure_writes = λ room st. omega (arith, status, st);
+        complete = λ none failed. absurd (failed.reading stops.fault);
+        complete_refusal = λ some failed. absurd (failed.reading stops.fault);
+      }
+  stop-judged NoMemory stops reported =
+      let status : r.status ≡ 5 = reported.status in
+      record {
+        known = omega (arith, status);
+        done = λ st. absurd (omega (arith, status, st));
+        read = λ st. absurd (omega (arith, status, st));
+        wrong = λ st. absurd (omega (arith, status, st));
+        wrong_read = λ st. absurd (omega (arith, status, st));
+        refused = λ st. absurd (omega (arith, status, st));
+        refused_read = λ st. absurd (omega (arith, status, st));
+        cut = λ st. absurd (omega (arith, status, st));
+        nothing = λ st. refl;
+        no_frame = reported.last;
+        no_journals = reported.all;
+        sure_writes = λ room st. omega (arith, status, st);
+        complete = λ none failed. inl (inl status);
+        complete_refusal = λ some failed. inl status;
+      }
 
   pub found-judged : ((v : Verdict) (bytes : List ℕ) → Judged v bytes → fault_within limit bytes ≡ None) → (sink' : K) (found : Result Verdict DemoStop) → IfOk found Finds
       → IfErr found (StopsChecking s limit source source') → ReportsFound k sink sink' r found → IsJudgedBy s k limit Judged ReadsRight ReadsWrong source source' sink sink' r

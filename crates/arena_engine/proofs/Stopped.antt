@@ -1,5 +1,5 @@
 -- What a report says of a recording whose reader stopped.
-use Rattle.std.proofs.Common.{◌≡◌, ℕ, ◌≤◌, List, [], Option, Some, None, Err, IfSome, IsSome, inl, inr, refl, sym, subst, arith}
+use Rattle.std.proofs.Common.{◌≡◌, ℕ, ◌≤◌, List, [], Option, Some, None, Err, IfSome, inl, inr, refl, sym, subst, arith}
 use Rattle.std.specs.Prelude.{IsSomeAnd}
 use Rattle.edge_io.specs.declared.source.Source as sources
 use Rattle.edge_io.specs.declared.sink.Sink as sinks
@@ -51,54 +51,60 @@ module _ {S K : Type 0} (s : sources.Ghosts S) (k : sinks.Ghosts K) (source sour
 
   module _ (target : ℕ) (last : r.last ≡ None) (all : r.all ≡ []) where
     pub stop-planned : (d : DemoStop) → GivesStop s source source' d → r.status ≡ status_of (Err (stop_of d)) → refusal_of r ≡ place_of (Err (stop_of d)) → IsPlanned s k target source source' sink sink r
-    stop-planned (Refused line rule_fault rule) gives status place = record {
-      known = λ is. omega (arith, is, status);
-      done = λ is. absurd (omega (arith, is, status));
-      no_spawn = λ is fault_is. absurd (omega (arith, is, status));
-      no_walk = λ is fault_is. absurd (omega (arith, is, status));
-      read = λ is. absurd (omega (arith, is, status));
-      refused = λ is. subst (λ (why : LineRefusal). IfSome (s.left source) (λ bytes. fault bytes ≡ Some why)) (sym place) gives.faulty;
-      refused_read = λ is. gives.read;
-      cut = λ is. absurd (omega (arith, is, status));
-      nothing = λ is. refl;
-      no_frame = last;
-      no_journals = all;
-      sure_writes = λ room is. omega (arith, is, status);
-      sure_longest = λ room is. omega (arith, is, status);
-      complete = λ none nothing. absurd (not-faultless (s.left source) fault _ gives.faulty none);
-      complete_refusal = λ some nothing. inr status;
-    }
-    stop-planned ReadFault gives status place = record {
-      known = λ is. omega (arith, is, status);
-      done = λ is. absurd (omega (arith, is, status));
-      no_spawn = λ is fault_is. absurd (omega (arith, is, status));
-      no_walk = λ is fault_is. absurd (omega (arith, is, status));
-      read = λ is. absurd (omega (arith, is, status));
-      refused = λ is. absurd (omega (arith, is, status));
-      refused_read = λ is. absurd (omega (arith, is, status));
-      cut = λ is. absurd (omega (arith, is, status));
-      nothing = λ is. refl;
-      no_frame = last;
-      no_journals = all;
-      sure_writes = λ room is. omega (arith, is, status);
-      sure_longest = λ room is. omega (arith, is, status);
-      complete = λ none nothing. absurd (nothing.reading gives.fault);
-      complete_refusal = λ some nothing. absurd (nothing.reading gives.fault);
-    }
-    stop-planned NoMemory gives status place = record {
-      known = λ is. omega (arith, is, status);
-      done = λ is. absurd (omega (arith, is, status));
-      no_spawn = λ is fault_is. absurd (omega (arith, is, status));
-      no_walk = λ is fault_is. absurd (omega (arith, is, status));
-      read = λ is. absurd (omega (arith, is, status));
-      refused = λ is. absurd (omega (arith, is, status));
-      refused_read = λ is. absurd (omega (arith, is, status));
-      cut = λ is. absurd (omega (arith, is, status));
-      nothing = λ is. refl;
-      no_frame = last;
-      no_journals = all;
-      sure_writes = λ room is. omega (arith, is, status);
-      sure_longest = λ room is. omega (arith, is, status);
-      complete = λ none nothing. inl (inl status);
-      complete_refusal = λ some nothing. inl status;
-    }
+    stop-planned (Refused line rule_fault rule) gives status_is place =
+        let status : r.status ≡ 1 = status_is in
+        record {
+          known = λ is. omega (arith, is, status);
+          done = λ is. absurd (omega (arith, is, status));
+          no_spawn = λ is fault_is. absurd (omega (arith, is, status));
+          no_walk = λ is fault_is. absurd (omega (arith, is, status));
+          read = λ is. absurd (omega (arith, is, status));
+          refused = λ is. subst (λ (why : LineRefusal). IfSome (s.left source) (λ bytes. fault bytes ≡ Some why)) (sym place) gives.faulty;
+          refused_read = λ is. gives.read;
+          cut = λ is. absurd (omega (arith, is, status));
+          nothing = λ is. refl;
+          no_frame = last;
+          no_journals = all;
+          sure_writes = λ room is. omega (arith, is, status);
+          sure_longest = λ room is. omega (arith, is, status);
+          complete = λ none nothing. absurd (not-faultless (s.left source) fault _ gives.faulty none);
+          complete_refusal = λ some nothing. inr status;
+        }
+    stop-planned ReadFault gives status_is place =
+        let status : r.status ≡ 3 = status_is in
+        record {
+          known = λ is. omega (arith, is, status);
+          done = λ is. absurd (omega (arith, is, status));
+          no_spawn = λ is fault_is. absurd (omega (arith, is, status));
+          no_walk = λ is fault_is. absurd (omega (arith, is, status));
+          read = λ is. absurd (omega (arith, is, status));
+          refused = λ is. absurd (omega (arith, is, status));
+          refused_read = λ is. absurd (omega (arith, is, status));
+          cut = λ is. absurd (omega (arith, is, status));
+          nothing = λ is. refl;
+          no_frame = last;
+          no_journals = all;
+          sure_writes = λ room is. omega (arith, is, status);
+          sure_longest = λ room is. omega (arith, is, status);
+          complete = λ none nothing. absurd (nothing.reading gives.fault);
+          complete_refusal = λ some nothing. absurd (nothing.reading gives.fault);
+        }
+    stop-planned NoMemory gives status_is place =
+        let status : r.status ≡ 5 = status_is in
+        record {
+          known = λ is. omega (arith, is, status);
+          done = λ is. absurd (omega (arith, is, status));
+          no_spawn = λ is fault_is. absurd (omega (arith, is, status));
+          no_walk = λ is fault_is. absurd (omega (arith, is, status));
+          read = λ is. absurd (omega (arith, is, status));
+          refused = λ is. absurd (omega (arith, is, status));
+          refused_read = λ is. absurd (omega (arith, is, status));
+          cut = λ is. absurd (omega (arith, is, status));
+          nothing = λ is. refl;
+          no_frame = last;
+          no_journals = all;
+          sure_writes = λ room is. omega (arith, is, status);
+          sure_longest = λ room is. omega (arith, is, status);
+          complete = λ none nothing. inl (inl status);
+          complete_refusal = λ some nothing. inl status;
+        }
