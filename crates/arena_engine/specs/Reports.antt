@@ -1,6 +1,6 @@
 -- What a report says of a recording that was played.
 use Rattle.std.specs.Prelude.{◌≡◌, ℕ, [], Result, Ok, Err}
-use Rattle.demo_lines.specs.Bytes.{LineRefusal}
+use Rattle.demo_lines.specs.declared.line_refusal.LineRefusal.{LineRefusal}
 use Rattle.playback.specs.Playbacks.{entries_if}
 use Rattle.arena_engine.specs.declared.stop.Stop.{Stop}
 use Rattle.arena_engine.specs.declared.stop.Stop.TheVariants.{Refused, ReadFault, WriteFault, NoMemory}

@@ -1,6 +1,6 @@
 -- Why a recording isn't played on.
 use Rattle.std.specs.Prelude.{⊤}
-use Rattle.demo_lines.specs.Bytes.{LineRefusal}
+use Rattle.demo_lines.specs.declared.line_refusal.LineRefusal.{LineRefusal}
 use Rattle.arena_engine.specs.declared.stop.Stop.{Stop}
 use Rattle.arena_engine.specs.declared.stop.Stop.TheVariants.{Refused, ReadFault, WriteFault, NoMemory}
 
