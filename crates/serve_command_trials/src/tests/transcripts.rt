@@ -49,7 +49,7 @@ const FAULTY: &str = "arena -131072 -131072 0 131072 131072 65536\nfrob\n";
 const MANY_BYTES: usize = 2_000_000;
 
 /// How many of them a read gives and a write takes.
-const MANY: usize = 65_536;
+pub const MANY: usize = 65_536;
 
 /// Judges what a source has by this word, and compares the status, the line and what is written.
 pub fn expect_judged(
@@ -158,7 +158,7 @@ fn exchanged_lines_and_a_line_alone_are_wrong(rt: HostRuntime) -> Result<(), Fai
 }
 
 /// What these words write, of this input; the status is 0.
-fn written_of(
+pub fn written_of(
     rt: &(impl AllocGlobal + Abort + Threads + Wait + Sync),
     words: &[&str],
     input: &[u8],
