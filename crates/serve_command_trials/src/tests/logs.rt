@@ -102,12 +102,17 @@ fn exchanged_frames_are_wrong_at_the_first(rt: HostRuntime) -> Result<(), Fail> 
     Ok(())
 }
 
-/// The packet is that of port 8, its line isn't there, or it stands twice.
+/// The packet is that of port 8, it is there twice, or not at all: then the first line alone is a right frame.
 #[test]
 fn packets_are_those_of_the_from_lines(rt: HostRuntime) -> Result<(), Fail> {
-    for packets in ["from 8 0101\n", "", "from 7 0101\nfrom 7 0101\n"] {
+    let rows = [
+        ("from 8 0101\n", 4),
+        ("from 7 0101\nfrom 7 0101\n", 4),
+        ("", 5),
+    ];
+    for (packets, line) in rows {
         let log = format!(in rt.alloc(); "frame 0\n{packets}{ANSWERS}")?;
-        expect_audited(&rt, MAP, &log, (6, 4), "")?;
+        expect_audited(&rt, MAP, &log, (6, line), "")?;
     }
     Ok(())
 }
