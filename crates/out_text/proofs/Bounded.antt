@@ -56,7 +56,7 @@ push-long f [] x = omega (arith, length-line (f x) [])
 push-long f (y ∷ xs) x = omega (arith, length-line (f y) (map f (xs ++ x ∷ [])), length-line (f y) (map f xs), push-long f xs x)
 
 -- the bytes of the lines of refusals and joins
-lists_size : Lists → ℕ
+pub lists_size : Lists → ℕ
 lists_size l = length (text_of (map no_line l.refused)) + length (text_of (map joined_line l.joined))
 
 -- after so many packets of a frame
@@ -97,7 +97,7 @@ counted-through arena frame n r (a ∷ more) few ports is =
     let next = counted-step arena frame n r a (omega (arith, few)) (All-head HasPort a more ports) is in
     omega (arith, counted-through arena frame (n + 1) (after_arrival arena frame r n a) more (omega (arith, few)) (All-tail HasPort a more ports) next)
 
-received-long : (arena : MapView) (frame : ℕ) (state : State) (arrivals : List Arrival) → length state.clients ≡ 64 → IsSmallFrame arrivals
+pub received-long : (arena : MapView) (frame : ℕ) (state : State) (arrivals : List Arrival) → length state.clients ≡ 64 → IsSmallFrame arrivals
     → lists_size (received arena frame state arrivals).lists ≤ 17 * length arrivals
 unfolding received lists_size
 received-long arena frame state arrivals slots small =
@@ -137,12 +137,19 @@ kept-below p (r ∷ rs) below = by (p r) (filter p rs) (kept-below p rs below.1)
     by true l rest = (below.0, rest)
     by false l rest = rest
 
+-- there are no more live records than ids, and each player has an id
+pub live-within : (arena : MapView) (records : List (Option Rec)) → length records ≡ IDS → length (live_in records) ≤ IDS
+live-within arena records places = omega (arith, live-few records, places)
+
+pub players-below : (arena : MapView) (records : List (Option Rec)) → IsValidWorld arena records → AllByRecursion (λ r. r.id < IDS) (players_in records)
+players-below arena records valid = kept-below _ (live_in records) (live-below records (λ id r at. id-below r (valid.each id r at).is_record))
+
 -- the lines of the snapshots of at most 64 players
 snapshots-long : (arena : MapView) (frame : ℕ) (records : List (Option Rec)) → length records ≡ IDS → IsValidWorld arena records → length (text_of (to_lines frame records)) ≤ ROOM * 64
 snapshots-long arena frame records places valid =
     let entries : AreEntries records = λ id r at. record { is_record = (valid.each id r at).is_record; own_id = (valid.each id r at).own_id } in
-    let below : AllByRecursion (λ r. r.id < IDS) (players_in records) = kept-below _ (live_in records) (live-below records (λ id r at. id-below r (valid.each id r at).is_record)) in
-    let few : length (live_in records) ≤ IDS = omega (arith, live-few records, places) in
+    let below = players-below arena records valid in
+    let few = live-within arena records places in
     let count : length (players_in records) ≤ 64 = omega (arith, ap length (players_are_first records entries), few_first records 64) in
     omega (arith, to_lines-long frame (live_in records) (players_in records) few below, count)
 
