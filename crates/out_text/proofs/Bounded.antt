@@ -56,7 +56,7 @@ push-long f [] x = omega (arith, length-line (f x) [])
 push-long f (y ∷ xs) x = omega (arith, length-line (f y) (map f (xs ++ x ∷ [])), length-line (f y) (map f xs), push-long f xs x)
 
 -- the bytes of the lines of refusals and joins
-pub lists_size : Lists → ℕ
+lists_size : Lists → ℕ
 lists_size l = length (text_of (map no_line l.refused)) + length (text_of (map joined_line l.joined))
 
 -- after so many packets of a frame
@@ -97,12 +97,21 @@ counted-through arena frame n r (a ∷ more) few ports is =
     let next = counted-step arena frame n r a (omega (arith, few)) (All-head HasPort a more ports) is in
     omega (arith, counted-through arena frame (n + 1) (after_arrival arena frame r n a) more (omega (arith, few)) (All-tail HasPort a more ports) next)
 
-pub received-long : (arena : MapView) (frame : ℕ) (state : State) (arrivals : List Arrival) → length state.clients ≡ 64 → IsSmallFrame arrivals
+received-long : (arena : MapView) (frame : ℕ) (state : State) (arrivals : List Arrival) → length state.clients ≡ 64 → IsSmallFrame arrivals
     → lists_size (received arena frame state arrivals).lists ≤ 17 * length arrivals
 unfolding received lists_size
 received-long arena frame state arrivals slots small =
     let none : IsCounted 0 (receiving_of state no_lists) = record { slots = slots; size = omega arith } in
     omega (arith, counted-through arena frame 0 (receiving_of state no_lists) arrivals (omega (arith, small.few)) small.ports none)
+
+-- the text of its refusals is so long, and that of its joins
+pub early-long : (arena : MapView) (frame : ℕ) (state : State) (arrivals : List Arrival) → length state.clients ≡ 64 → IsSmallFrame arrivals
+    → (length (text_of (map no_line (received arena frame state arrivals).lists.refused)) ≤ 17 * length arrivals)
+    × (length (text_of (map joined_line (received arena frame state arrivals).lists.joined)) ≤ 17 * length arrivals)
+unfolding lists_size
+early-long arena frame state arrivals slots small =
+    let long = received-long arena frame state arrivals slots small in
+    (omega (arith, long), omega (arith, long))
 
 -- a right journal has as many entries as moves were received
 journal-count : (arena : MapView) (r : Receiving) (journal : List Entry) → IsReception arena r → IsRightAfter arena r journal → length journal ≡ length r.lists.moves

@@ -56,7 +56,7 @@ arrival-in_range a is = record {
 }
 
 each-of : {X : Type 0} (P Q : X → Type 0) (xs : List X) → ((x : X) → P x → Q x) → AllByRecursion P xs → All Q xs
-each-of P Q xs then all = All-from_recursion Q xs (go xs all)
+each-of {X = X} P Q xs then all = All-from_recursion Q xs (go xs all)
   where
     go : (ys : List X) → AllByRecursion P ys → AllByRecursion Q ys
     go [] all = tt

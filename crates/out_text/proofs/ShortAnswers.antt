@@ -19,7 +19,7 @@ use Rattle.plain_server.proofs.Frames.{received_is, moved_by_is}
 use Rattle.plain_server.proofs.Ticking.{server_ticked}
 use Rattle.out_text.specs.OutLines.{OutLine, line_spelling, printed_line, text_of}
 use Rattle.out_text.specs.FrameLines.{no_line, joined_line, did_line, to_line}
-use Rattle.out_text.proofs.Bounded.{lists_size, received-long, players-below, live-within}
+use Rattle.out_text.proofs.Bounded.{early-long, players-below, live-within}
 use Rattle.out_text.proofs.FedReadBack.{rest_lines}
 use Rattle.out_text.proofs.Lengths.{length-line, journal-long, to_lines-long}
 use Rattle.out_text.proofs.SmallFrames.{IsSmallFrame}
@@ -52,7 +52,6 @@ both-short (l ∷ ls) more p q = (p.0, both-short ls more p.1 q)
 
 pub answers_are_short : (arena : MapView) (frame : ℕ) (state : State) (arrivals : List Arrival) (journal : List Entry) → IsMap arena → IsServerState arena state → All HasBytes arrivals → IsSmallFrame arrivals
     → IsRightAfter arena (received_in arena frame state arrivals) journal → AllByRecursion IsShortLine (rest_lines arena frame (received_in arena frame state arrivals) journal)
-unfolding lists_size
 answers_are_short arena frame state arrivals journal is_map is bytes small right =
     let r = received_in arena frame state arrivals in
     let before = state_after_tick arena frame state in
@@ -64,11 +63,11 @@ answers_are_short arena frame state arrivals journal is_map is bytes small right
     let joined = map joined_line r.lists.joined in
     let dids = map did_line journal in
     let tos = map (to_line frame (live_in records)) (players_in records) in
-    let early = received-long arena frame before arrivals (client_count before.clients ticked.clients.slots) small in
+    let early = early-long arena frame before arrivals (client_count before.clients ticked.clients.slots) small in
     let few = small.few in
     let reported = right_is_reported arena r journal is_map pass (numbers_are_small arena frame before arrivals bytes) right in
     both-short (refused ++ joined ++ dids) tos
     (both-short (refused ++ joined) dids
-    (both-short refused joined (each-short 8704 refused (omega arith) (omega (arith, early, few))) (each-short 8704 joined (omega arith) (omega (arith, early, few))))
+    (both-short refused joined (each-short 8704 refused (omega arith) (let long = early.0 in omega (arith, long, few))) (each-short 8704 joined (omega arith) (let long = early.1 in omega (arith, long, few))))
     (dids-short 0 journal reported))
     (tos-short frame (live_in records) (players_in records) (live-within arena records moved.places) (players-below arena records moved.fits.valid))

@@ -212,10 +212,10 @@ pub record HasNoFed (c : CheckerView) (line left : List ℕ) : Type 0 where
 no-fed : (arena : MapView) (feeds : List (List Arrival)) (js : List (List Entry)) → IsRecording arena feeds → AreRight arena 0 (opening arena) feeds js → (moves : ℕ) (input : InputView) (line left : List ℕ)
     → line ≡ line_spelling (FrameLine (0 + length feeds)) → HasNoLineFeed line
     → HasNoFed (record { map = arena; state = state_played arena 0 (opening arena) feeds js; frames = 0 + length feeds; moves = moves; input = input }) line left → HasNoNext arena feeds js left
-no-fed arena feeds js recorded right moves input line left given whole no = record {
+no-fed arena feeds js recorded right moves input line left given whole nothing = record {
   no_end = λ e. (let last = EndLine (length feeds) in
       end-is-no-frame (length feeds) (0 + length feeds)
-      (sym (same_line line (line_spelling last) no.rest e.after whole (one_line last) (sym no.is ∙ e.is ∙ line-first last e.after)).line_is ∙ given));
+      (sym (same_line line (line_spelling last) nothing.rest e.after whole (one_line last) (sym nothing.is ∙ e.is ∙ line-first last e.after)).line_is ∙ given));
   no_frame = λ f more j later after few ready there. (let n = 0 + length feeds in
       let s = state_played arena 0 (opening arena) feeds js in
       let r = received_in arena n s f in
@@ -223,8 +223,8 @@ no-fed arena feeds js recorded right moves input line left given whole no = reco
       let answers = answers_with arena n r j in
       let one = first-there arena recorded.is_map n s f j more later left after (plain.played_is arena 0 (opening arena) feeds js recorded.is_map (opening_is arena recorded.is_map)) (omega (arith, few)) there in
       let first = FrameLine n in
-      let same = same_line line (line_spelling first) no.rest one.left whole (one_line first) (sym no.is ∙ one.is ∙ line-first first one.left) in
-      no.none (record {
+      let same = same_line line (line_spelling first) nothing.rest one.left whole (one_line first) (sym nothing.is ∙ one.is ∙ line-first first one.left) in
+      nothing.none (record {
         these = froms ++ answers;
         fed = record { packets = f; frame = there.each.0; journal = j; right = there.right.0; lines_are = refl };
         begins = record {
@@ -310,8 +310,11 @@ module _ {S : Type 0} (s : sources.Ghosts S) (arena : MapView) where
       played_is : c1 ≡ played
       played_is = c1_is ∙ (λ i. record { map = so.map_is i; state = so.state_is i; frames = so.frames_are i; moves = c.moves; input = c1.input })
 
+      frames-zero : c1.frames ≡ 0 + length so.feeds
+      frames-zero = ap (λ (u : CheckerView). u.frames) played_is
+
       frames-same : c1.frames ≡ length so.feeds
-      frames-same = ap (λ (u : CheckerView). u.frames) played_is
+      frames-same = let same = frames-zero in omega (arith, same)
 
       map-same : c1.map ≡ arena
       map-same = ap (λ (u : CheckerView). u.map) played_is
@@ -334,7 +337,7 @@ module _ {S : Type 0} (s : sources.Ghosts S) (arena : MapView) where
                       few = (let same = frames-same in omega (arith, same, below));
                       ready = ap is_ready map-same ∙ ready;
                       is = (same_line c1.input.given (line_spelling (FrameLine (0 + k))) b.after _ read.gives.one_line (one_line (FrameLine (0 + k))) (sym b.is ∙ there.is ∙ text-next (FrameLine (0 + k)) _ after)).line_is
-                          ∙ ap (λ n. line_spelling (FrameLine n)) (sym frames-same);
+                          ∙ ap (λ n. line_spelling (FrameLine n)) (sym frames-zero);
                     });
               }
 
@@ -372,7 +375,7 @@ module _ {S : Type 0} (s : sources.Ghosts S) (arena : MapView) where
         frame_line = FrameLine (0 + length so.feeds)
 
         given-is : c1.input.given ≡ line_spelling frame_line
-        given-is = opens.is ∙ ap (λ n. line_spelling (FrameLine n)) frames-same
+        given-is = opens.is ∙ ap (λ n. line_spelling (FrameLine n)) frames-zero
 
         below : length so.feeds < MOST_FRAMES
         below = let few = opens.few in let same = frames-same in omega (arith, few, same)
@@ -391,7 +394,7 @@ module _ {S : Type 0} (s : sources.Ghosts S) (arena : MapView) where
             wrong-next new (HasNoFed played c1.input.given)
             (if_some-read (ahead_of s c.input now) (ahead_of s c1.input mid) (c1.input.given ++ 10 ∷ []) (λ bytes. BeginsWithFed played bytes → ⊥) (HasNoFed played c1.input.given) read.gives.consumed here.missed
             (λ bytes left is none. record { rest = left; is = is ∙ append_assoc c1.input.given (10 ∷ []) left; none = none }))
-            (λ left no. no-fed arena so.feeds so.journals so.recorded so.right c.moves c1.input c1.input.given left given-is read.gives.one_line no) (here.uncounted ∙ read.on.uncounted) before count counts
+            (λ left nothing. no-fed arena so.feeds so.journals so.recorded so.right c.moves c1.input c1.input.given left given-is read.gives.one_line nothing) (here.uncounted ∙ read.on.uncounted) before count counts
 
         -- its beginning was looked at
         pub frame-looked : (new : S) (c' : CheckerView) → BeginsFed s mid new c1 c' → ReadsBeginning s (AreOfLog arena) old new demo c'.input

@@ -1,5 +1,5 @@
 -- The frames of a transcript that were read so far, each with the one right journal whose lines are there.
-use Rattle.std.proofs.Common.{◌≡◌, ℕ, true, append_assoc, zero, suc, ◌+◌, ◌*◌, ◌≤◌, List, [], ◌∷◌, ◌++◌, length, take, drop, IfSome, refl, sym, ap, ◌∙◌, subst, add-zero, append-nil, arith, length-append, take-append-drop}
+use Rattle.std.proofs.Common.{◌≡◌, ℕ, true, false, append_assoc, zero, suc, ◌+◌, ◌*◌, ◌≤◌, List, [], ◌∷◌, ◌++◌, length, take, drop, IfSome, refl, sym, ap, ◌∙◌, subst, add-zero, append-nil, arith, length-append, take-append-drop}
 use Rattle.std.specs.Prelude.{⊤}
 use Rattle.edge_io.specs.declared.source.Source as sources
 use Rattle.entity_recs.specs.declared.effect.Entry.{Entry}

@@ -1,5 +1,5 @@
 -- The `from` lines of a frame, and the line that ends them.
-use Rattle.std.proofs.Common.{◌≡◌, ℕ, true, false, List, [], ◌∷◌, ◌++◌, ◌<◌, ◌≤◌, length, map, refl, sym, ap, ◌∙◌, subst, arith, length-append, append-nil, map-append}
+use Rattle.std.proofs.Common.{◌≡◌, ℕ, true, false, List, [], ◌∷◌, ◌++◌, ◌<◌, ◌≤◌, length, map, refl, sym, ap, ◌∙◌, subst, arith, length-append, append-nil}
 use Rattle.std.specs.List.{AllByRecursion}
 use Rattle.edge_io.specs.Lines.{HasNoLineFeed}
 use Rattle.packet_read.specs.declared.arrival.Arrival.{Arrival}

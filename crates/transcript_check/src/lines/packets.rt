@@ -29,7 +29,7 @@ fn arrival_of(port: u16, bytes: &[u8]) -> Arrival
 
 /// The packet of a line of the output, if it is that of one.
 fn packet_of(line: Option<OutLine>) -> Option<Arrival>
-    requires { IfSome (option_map line_of line.entry) HasRoom }
+    requires { IfSome (option_map line_of line) HasRoom }
     ensures some { IfSome result (λ a. option_map line_of line.entry ≡ Some (from_line a)) }
     ensures only { (a : specs.Arrival) → option_map line_of line.entry ≡ Some (from_line a) → result ≡ Some a }
 {

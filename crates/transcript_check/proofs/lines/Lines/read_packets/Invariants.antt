@@ -1,7 +1,7 @@
 use Rattle.std.proofs.Common.{◌-◌, length}
 use Rattle.packet_read.specs.declared.arrival.TheConstants.{MOST_ARRIVALS}
 use Rattle.transcript_check.proofs.PacketsRead.{PacketsSoFar}
-use Rattle.transcript_check.proofs.lines.packets.Lines.read_packets.Given as goal
+use Rattle.transcript_check.proofs.lines.Lines.read_packets.Given as goal
 
 -- the packets so far were read
 abbrev pub invariant-packets : goal.invariant-packets
