@@ -1,5 +1,5 @@
 -- The lines of a frame that is fed: where its packets end, and what was read or missed of it.
-use Rattle.std.proofs.Common.{◌≡◌, ℕ, ◌+◌, ◌<◌, ◌≤◌, Bool, true, false, List, [], ◌∷◌, ◌++◌, length, map, Option, IfSome, refl, sym, ap, ◌∙◌, subst, arith, append-nil, append_assoc}
+use Rattle.std.proofs.Common.{◌≡◌, ℕ, true, false, List, [], ◌∷◌, ◌++◌, map, IfSome, refl, sym, ap, ◌∙◌, subst, arith, append-nil, append_assoc}
 use Rattle.std.specs.List.{AllByRecursion}
 use Rattle.edge_io.specs.declared.source.Source as sources
 use Rattle.entity_recs.specs.declared.effect.Entry.{Entry}
@@ -25,7 +25,7 @@ use Rattle.transcript_check.proofs.FrameTaken.{Follow, frame-taken}
 use Rattle.transcript_check.proofs.FromLines.{same-packets}
 use Rattle.transcript_check.proofs.OneJournal.{text-next}
 use Rattle.transcript_check.proofs.ReadingOn.{looked-within, looked-after}
-use Rattle.transcript_check.proofs.Texts.{one_line, append-same, begins-after, if_some-read, if_some-weaker, if_some-both}
+use Rattle.transcript_check.proofs.Texts.{one_line, append-same, if_some-read, if_some-weaker, if_some-both}
 
 -- ---- lines after which packets may come
 

@@ -1,5 +1,5 @@
 -- The frames of a log that were read so far, and the verdict where the next piece is none.
-use Rattle.std.proofs.Common.{◌≡◌, ◌⊎◌, inl, inr, ℕ, ◌+◌, ◌*◌, ◌<◌, ◌≤◌, true, false, List, [], ◌∷◌, ◌++◌, length, map as map_list, Option, Some, None, IfSome, refl, sym, ap, ◌∙◌, subst, arith, append-nil, append_assoc, length-append}
+use Rattle.std.proofs.Common.{◌≡◌, inl, inr, ℕ, ◌+◌, ◌*◌, ◌<◌, ◌≤◌, true, false, List, [], ◌∷◌, ◌++◌, length, map as map_list, Option, Some, None, IfSome, refl, sym, ap, ◌∙◌, subst, arith, append-nil, append_assoc, length-append}
 use Rattle.std.specs.Prelude.{⊤}
 use Rattle.std.specs.List.{AllByRecursion}
 use Rattle.std.proofs.lemmas.Bool.{cases_order}
@@ -11,17 +11,15 @@ use Rattle.arena_map.specs.declared.limits.TheConstants.{MOST_FRAMES}
 use Rattle.arena_map.specs.Maps.{MapView, IsMap, is_ready}
 use Rattle.packet_read.specs.declared.arrival.Arrival.{Arrival}
 use Rattle.client_ports.specs.declared.received.TheConstants.{MOST_FRAME_MOVES}
-use Rattle.client_ports.specs.Receiving.{Receiving}
 use Rattle.plain_server.specs.RecordsById.{opening}
-use Rattle.plain_server.specs.Frames.{received_in, state_played, IsRightAfter, AreRight}
+use Rattle.plain_server.specs.Frames.{received_in, state_played, AreRight}
 use Rattle.plain_server.proofs.Frames as plain
 use Rattle.plain_server.proofs.Frames.{opening_is}
 use Rattle.plain_server.proofs.Turns.{right_count}
 use Rattle.demo_lines.specs.Rest.{GivesRestLine, HasNoRestLine}
 use Rattle.demo_lines.specs.Spelling.{IsFrame, IsRecording}
 use Rattle.out_text.specs.Feeds.{from_line, fed_lines}
-use Rattle.out_text.specs.FrameLines.{lines_with}
-use Rattle.out_text.specs.MatchLogs.{may_have_more, EndsPackets, BeginsWithFrames, IsLog, HasRightFrames, IsWrongLogAfter}
+use Rattle.out_text.specs.MatchLogs.{may_have_more, EndsPackets, IsLog, HasRightFrames, IsWrongLogAfter}
 use Rattle.out_text.specs.OutLines.{OutLine, FrameLine, EndLine, line_spelling, printed_line, text_of}
 use Rattle.out_text.specs.Transcripts.{BeginsWith, run_moves}
 use Rattle.out_text.proofs.FedRuns.{fed_lines-push}
@@ -36,10 +34,10 @@ use Rattle.transcript_check.specs.declared.verdict.Verdict.TheVariants.{Right, W
 use Rattle.transcript_check.proofs.FedFrames.{more-after}
 use Rattle.transcript_check.proofs.FramesRead.{run_moves-push, counted-few}
 use Rattle.transcript_check.proofs.HeldLines.{BeginsWithLine}
-use Rattle.transcript_check.proofs.OneFeed.{AreThere, FirstThere, first-there, GoesOnWith, goes-on-with}
+use Rattle.transcript_check.proofs.OneFeed.{AreThere, first-there, GoesOnWith, goes-on-with}
 use Rattle.transcript_check.proofs.OneJournal.{text-next}
 use Rattle.transcript_check.proofs.ReadingOn.{IsWithin, reads-none, reads-both, read-wanted, looked-first, looked-after}
-use Rattle.transcript_check.proofs.Texts.{one_line, same_line, append-same, text_of-one, if_some-read, if_some-weaker, if_some-over, if_some-all, if_some-both}
+use Rattle.transcript_check.proofs.Texts.{one_line, same_line, append-same, text_of-one, if_some-read, if_some-over, if_some-all}
 
 -- ---- a wrong log
 

@@ -1,17 +1,16 @@
 -- The `from` lines of a frame, and the line that ends them.
-use Rattle.std.proofs.Common.{◌≡◌, ℕ, true, false, List, [], ◌∷◌, ◌++◌, ◌<◌, ◌≤◌, length, map, refl, sym, ap, ◌∙◌, subst, arith, length-append, append-nil}
+use Rattle.std.proofs.Common.{◌≡◌, ℕ, true, false, List, [], ◌∷◌, ◌++◌, length, map, refl, sym, ap, ◌∙◌, subst, arith, length-append, append-nil}
 use Rattle.std.specs.List.{AllByRecursion}
 use Rattle.edge_io.specs.Lines.{HasNoLineFeed}
 use Rattle.packet_read.specs.declared.arrival.Arrival.{Arrival}
-use Rattle.demo_lines.specs.declared.rest.TheConstants.{LONGEST_REST}
 use Rattle.demo_lines.specs.Rest.{HasNoRestLine}
 use Rattle.demo_lines.specs.Spelling.{IsArrival, IsFrame}
-use Rattle.out_text.specs.OutLines.{OutLine, line_spelling, printed_line, text_of}
+use Rattle.out_text.specs.OutLines.{line_spelling, text_of}
 use Rattle.out_text.specs.Feeds.{from_line, is_from_line}
 use Rattle.out_text.specs.MatchLogs.{EndsPackets}
 use Rattle.out_text.specs.Transcripts.{BeginsWith}
 use Rattle.out_text.proofs.FedPackets.{from-same, from-begins, from-spelled}
-use Rattle.transcript_check.specs.Packets.{IsPacketLine, HasNoPacket, HasNoPackets}
+use Rattle.transcript_check.specs.Packets.{HasNoPacket, HasNoPackets}
 use Rattle.transcript_check.proofs.OneJournal.{text-next}
 use Rattle.transcript_check.proofs.Texts.{one_line, same_line}
 

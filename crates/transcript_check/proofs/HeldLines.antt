@@ -1,14 +1,13 @@
 -- A line that is read and held, and then taken.
-use Rattle.std.proofs.Common.{◌≡◌, ◌⊎◌, inl, inr, ℕ, Bool, true, false, Option, Some, None, IfSome, List, [], ◌∷◌, ◌++◌, length, refl, sym, ap, ◌∙◌, subst, append_assoc, append-nil}
+use Rattle.std.proofs.Common.{◌≡◌, ◌⊎◌, inl, inr, ℕ, Bool, true, false, Option, Some, None, IfSome, List, [], ◌∷◌, ◌++◌, refl, sym, ap, ◌∙◌, subst, append_assoc}
 use Rattle.std.specs.Io.KnownBytes.{Consumes, IsAtEnd}
 use Rattle.std.proofs.KnownBytes.{Consumes-nil, Consumes-trans}
 use Rattle.edge_io.specs.declared.source.Source as sources
 use Rattle.edge_io.specs.Lines.{ahead, HasNotReadAhead}
-use Rattle.demo_lines.specs.Reads.{DemoReaderView}
-use Rattle.demo_lines.specs.Rest.{HasRest, HasNoRestLine, GivesRestLine, GivesNextLine, GivesNoLine, FailsToGiveLine, TakesLineAtMost}
+use Rattle.demo_lines.specs.Rest.{HasRest, HasNoRestLine, GivesNextLine, GivesNoLine, FailsToGiveLine, TakesLineAtMost}
 use Rattle.demo_lines.specs.Outcomes as outcomes
 use Rattle.demo_lines.specs.declared.demo_stop.DemoStop.{DemoStop}
-use Rattle.transcript_check.specs.Reading.{InputView, IsRestLine, text_held, without_held, count_after, ahead_of, MayRead, IsNeeded, GoesOn, HoldsLine, ReadsLine, ReadsLines, ReadsOneAtMost, Misses, ReadFails}
+use Rattle.transcript_check.specs.Reading.{InputView, IsRestLine, text_held, without_held, count_after, ahead_of, MayRead, IsNeeded, HoldsLine, ReadsLine, ReadsLines, ReadsOneAtMost, Misses, ReadFails}
 use Rattle.transcript_check.proofs.ReadingOn.{on-none, at_most-weaker}
 
 -- what is ahead, where no line is held

@@ -26,7 +26,7 @@ use Rattle.transcript_check.specs.Reading.{InputView, ahead_of, IsNeeded, TakesB
 use Rattle.transcript_check.specs.Looked.{AreOfOutput, LooksAt, ReadsTranscript}
 use Rattle.transcript_check.specs.Audits.{AreOfLog, IsLogVerdict, LooksAtLog, JudgesLog}
 use Rattle.transcript_check.specs.Recorded.{ReadsRecording}
-use Rattle.transcript_check.specs.Verdicts.{IsShort, IsVerdict, HasEndAt, IsJudged, Judges, StopsChecking}
+use Rattle.transcript_check.specs.Verdicts.{IsShort, IsVerdict, HasEndAt, Judges, StopsChecking}
 use Rattle.transcript_check.specs.declared.verdict.Verdict.{Verdict}
 use Rattle.transcript_check.specs.declared.verdict.Verdict.TheVariants.{Right, Wrong}
 use Rattle.transcript_check.proofs.Texts.{if_some-weaker}

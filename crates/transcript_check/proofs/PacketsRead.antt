@@ -1,5 +1,5 @@
 -- The packets of a frame that were read so far.
-use Rattle.std.proofs.Common.{◌≡◌, ℕ, ◌+◌, ◌<◌, ◌≤◌, true, false, List, [], ◌∷◌, ◌++◌, length, map, Option, IfSome, refl, sym, ap, ◌∙◌, subst, arith, append-nil, append_assoc, length-append}
+use Rattle.std.proofs.Common.{◌≡◌, true, false, List, [], ◌∷◌, ◌++◌, map, sym, ap, ◌∙◌, subst, arith, append-nil, length-append}
 use Rattle.std.specs.List.{AllByRecursion}
 use Rattle.std.proofs.lemmas.List.{map-append}
 use Rattle.edge_io.specs.declared.source.Source as sources
@@ -7,7 +7,7 @@ use Rattle.packet_read.specs.declared.arrival.Arrival.{Arrival}
 use Rattle.demo_lines.specs.declared.demo_stop.DemoStop.{DemoStop}
 use Rattle.demo_lines.specs.Rest.{HasNoRestLine}
 use Rattle.demo_lines.specs.Spelling.{IsArrival, IsFrame}
-use Rattle.out_text.specs.OutLines.{OutLine, text_of}
+use Rattle.out_text.specs.OutLines.{text_of}
 use Rattle.out_text.specs.Feeds.{from_line, is_from_line}
 use Rattle.transcript_check.specs.Reading.{InputView, ahead_of, without_held, MayRead, HoldsLine, ReadsLines, ReadsOneAtMost, ReadsBeginning, Misses, ReadFails}
 use Rattle.transcript_check.specs.Packets.{TakesPacket, HasNoPacket, ArePackets, HasNoPackets, ReadsPackets}

@@ -1,8 +1,7 @@
-use Rattle.std.proofs.Common.{◌≡◌, ◌<◌, sym, ap, ◌∙◌, subst, arith}
+use Rattle.std.proofs.Common.{ap, ◌∙◌, subst}
 use Rattle.transcript_check.specs.Audits.{OpensFrame}
-use Rattle.transcript_check.specs.Checkers.{CheckerView, with_input, IsChecker}
+use Rattle.transcript_check.specs.Checkers.{CheckerView}
 use Rattle.transcript_check.specs.Packets.{TakesFed, MissesFed, BeginsFed}
-use Rattle.transcript_check.specs.Reading.{MayRead}
 use Rattle.transcript_check.proofs.ReadingOn.{looked-line}
 use Rattle.transcript_check.proofs.FedRead.{fed-none, line-missed, line-looked, other-missed, end-right, end-looked, frame-missed, frame-looked, frame-read}
 use Rattle.transcript_check.proofs.auditing.compare_log.Goals as goal

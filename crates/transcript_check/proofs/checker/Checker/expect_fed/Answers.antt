@@ -1,9 +1,8 @@
-use Rattle.std.proofs.Common.{List, length, ◌<◌, ◌≤◌, ◌*◌, IfOk, sym, subst}
+use Rattle.std.proofs.Common.{List, ◌<◌, ◌≤◌, ◌*◌, IfOk, sym, subst}
 use Rattle.std.specs.Bool.{OnTrue, OnFalse}
 use Rattle.arena_map.specs.declared.limits.TheConstants.{MOST_FRAMES}
 use Rattle.client_ports.specs.declared.received.TheConstants.{MOST_FRAME_MOVES}
 use Rattle.packet_read.specs.declared.arrival.Arrival.{Arrival}
-use Rattle.packet_read.specs.declared.arrival.TheConstants.{MOST_ARRIVALS}
 use Rattle.transcript_check.specs.Checkers.{CheckerView, with_input, IsChecker}
 use Rattle.transcript_check.specs.Pieces.{TakesFrame, MissesFrame, BeginsFrame, answers_with}
 use Rattle.transcript_check.proofs.Texts.{ok_true-weaker, ok_false-weaker}
