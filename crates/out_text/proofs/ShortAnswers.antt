@@ -1,5 +1,5 @@
 -- Each answer of a frame is a line that isn't too long.
-use Rattle.std.proofs.Common.{◌≡◌, ℕ, ◌+◌, ◌*◌, ◌<◌, ◌≤◌, All, List, [], ◌∷◌, ◌++◌, length, map, arith, length-append}
+use Rattle.std.proofs.Common.{ℕ, ◌+◌, ◌<◌, ◌≤◌, All, List, [], ◌∷◌, ◌++◌, length, map, arith, length-append}
 use Rattle.std.specs.List.{AllByRecursion}
 use Rattle.edge_io.specs.declared.line_buf.TheConstants.{ROOM}
 use Rattle.entity_recs.specs.declared.limits.TheConstants.{IDS}
@@ -17,7 +17,7 @@ use Rattle.plain_server.proofs.Small.{numbers_are_small}
 use Rattle.plain_server.proofs.Reports.{right_is_reported}
 use Rattle.plain_server.proofs.Frames.{received_is, moved_by_is}
 use Rattle.plain_server.proofs.Ticking.{server_ticked}
-use Rattle.out_text.specs.OutLines.{OutLine, line_spelling, printed_line, text_of}
+use Rattle.out_text.specs.OutLines.{OutLine, line_spelling, text_of}
 use Rattle.out_text.specs.FrameLines.{no_line, joined_line, did_line, to_line}
 use Rattle.out_text.proofs.Bounded.{early-long, players-below, live-within}
 use Rattle.out_text.proofs.FedReadBack.{rest_lines}
