@@ -7,7 +7,7 @@ use Rattle.packet_read.specs.declared.arrival.TheConstants.{MOST_ARRIVALS}
 use Rattle.plain_server.specs.Frames.{received_in, IsRightAfter}
 use Rattle.demo_lines.specs.Spelling.{IsArrival, IsFrame}
 use Rattle.out_text.specs.Feeds.{from_line}
-use Rattle.out_text.specs.OutLines.{OutLine, line_spelling, text_of}
+use Rattle.out_text.specs.OutLines.{OutLine, FrameLine, line_spelling, text_of}
 use Rattle.out_text.specs.Transcripts.{BeginsWith}
 use Rattle.out_text.specs.MatchLogs.{EndsPackets, may_have_more}
 use Rattle.transcript_check.specs.Checkers.{CheckerView}
@@ -49,46 +49,43 @@ pub record ReadsPackets {S : Type 0} (s : sources.Ghosts S) (old new : S) (input
   pub reads : ReadsLines s old new input input' (map_list from_line packets)
   pub ends : IfSome (ahead_of s input' new) EndsPackets
 
--- ---- the lines of a frame that is fed
+-- ---- the lines of a frame after its first
 
--- lines of a frame, by its packets too
-abbrev pub FedText : Type 0
-FedText = List Arrival → FrameText
-
--- those after the first: its packets and its answers
-abbrev pub fed_with : FedText
+-- its packets and its answers
+abbrev pub fed_with : List Arrival → FrameText
 fed_with packets map frame r journal = map_list from_line packets ++ answers_with map frame r journal
 
--- such lines of packets that a frame may have, with a right journal
-pub record IsFed (lines : FedText) (c : CheckerView) (these : List OutLine) : Type 0 where
-  pub packets : List Arrival
-  pub frame : IsFrame packets
-  pub journal : List Entry
-  pub right : IsRightAfter c.map (received_in c.map c.frames c.state packets) journal
-  pub lines_are : these ≡ lines packets c.map c.frames (received_in c.map c.frames c.state packets) journal
+module _ (c : CheckerView) where
+  -- these are such lines, of packets that a frame may have and with a right journal
+  pub record IsFed (these : List OutLine) : Type 0 where
+    pub packets : List Arrival
+    pub frame : IsFrame packets
+    pub journal : List Entry
+    pub right : IsRightAfter c.map (received_in c.map c.frames c.state packets) journal
+    pub lines_are : these ≡ fed_with packets c.map c.frames (received_in c.map c.frames c.state packets) journal
 
--- the bytes begin with such lines; where they have no answer, a line follows that ends the packets
-pub record BeginsWithFed (lines : FedText) (c : CheckerView) (bytes : List ℕ) : Type 0 where
-  pub these : List OutLine
-  pub fed : IsFed lines c these
-  pub begins : BeginsWith bytes (text_of these)
-  pub whole : may_have_more these ≡ true → EndsPackets begins.after
+  -- the bytes begin with such lines, and where the frame has no answer, a line follows that ends its packets
+  pub record BeginsWithFed (bytes : List ℕ) : Type 0 where
+    pub these : List OutLine
+    pub fed : IsFed these
+    pub begins : BeginsWith bytes (text_of these)
+    pub whole : may_have_more (FrameLine c.frames ∷ these) ≡ true → EndsPackets begins.after
 
-module _ {S : Type 0} (s : sources.Ghosts S) (lines : FedText) (old new : S) (c : CheckerView) where
-  -- such lines were read, and those of no other packets are there
+module _ {S : Type 0} (s : sources.Ghosts S) (old new : S) (c : CheckerView) where
+  -- such lines were read
   pub record TakesFed (c' : CheckerView) : Type 0 where
     pub packets : List Arrival
     pub frame : IsFrame packets
-    pub taken : TakesFrame s (lines packets) old new c c' packets
-    pub whole : may_have_more
-        (lines packets c.map c.frames (received_in c.map c.frames c.state packets) taken.journal) ≡ true
-        → IfSome (ahead_of s c'.input new) EndsPackets
-    pub alone : IfSome (ahead_of s c.input old) (λ bytes. (b : BeginsWithFed lines c bytes) → b.fed.packets ≡ packets)
+    pub taken : TakesFrame s (fed_with packets) old new c c' packets
+    pub whole : may_have_more (FrameLine c.frames ∷ fed_with packets c.map c.frames (received_in c.map c.frames c.state packets) taken.journal)
+        ≡ true → IfSome (ahead_of s c.input old) (λ bytes. (b : BeginsWith bytes
+        (text_of (fed_with packets c.map c.frames (received_in c.map c.frames c.state packets) taken.journal)))
+        → EndsPackets b.after)
 
   -- none are there
   abbrev pub MissesFed : Type 0
-  MissesFed = Misses s old new c.input (λ bytes. BeginsWithFed lines c bytes → ⊥)
+  MissesFed = Misses s old new c.input (λ bytes. BeginsWithFed c bytes → ⊥)
 
   -- of such lines the first were read, and then one line at most
   abbrev pub BeginsFed : CheckerView → Type 0
-  BeginsFed c' = ReadsBeginning s (IsFed lines c) old new c.input c'.input
+  BeginsFed c' = ReadsBeginning s (IsFed c) old new c.input c'.input

@@ -79,7 +79,7 @@ module _ {S : Type 0} (s : sources.Ghosts S) where
   -- nothing was taken, and a line is held
   pub record HoldsLine (old new : S) (input input' : InputView) : Type 0 where
     pub is : input'.held ≡ true
-    pub same : ahead_of input' new ≡ ahead_of input old
+    pub same : Consumes (ahead_of input old) (ahead_of input' new) []
     pub line : IsRestLine input'.given
     pub on : GoesOn old new input input'
     pub count_is : input'.count ≡ input.count

@@ -1,4 +1,4 @@
-ghost use Rattle.std.specs.Prelude.{◌≡◌, ◌<◌, ◌≤◌, ◌^◌, true, false, IfOk, IfErr, OnOk};
+ghost use Rattle.std.specs.Prelude.{◌≡◌, ◌<◌, ◌^◌, true, false, [], IfOk, IfErr};
 ghost use Rattle.demo_lines.specs.Reads.{fresh_within};
 ghost use Rattle.transcript_check.specs.Reading.{ahead_of, MayRead, IsNeeded, Misses, ReadFails};
 ghost use Rattle.transcript_check.specs.Checkers.{new_checker, IsChecker};
@@ -44,7 +44,10 @@ fn compare_log<S: Source>(
                 moves: checker.moves(),
             });
         }
-        if !checker.is_frame() || !checker.expect_fed(packets, source)? {
+        if !checker.is_frame() {
+            return Ok(Verdict::Wrong { line });
+        }
+        if !checker.expect_fed(packets, source)? {
             return Ok(Verdict::Wrong { line });
         }
     }

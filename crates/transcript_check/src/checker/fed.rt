@@ -7,7 +7,7 @@ ghost use Rattle.demo_lines.specs.Rest.{HasNoRestLine};
 ghost use Rattle.out_text.specs.OutLines.{FrameLine, EndLine, line_spelling};
 ghost use Rattle.transcript_check.specs.Reading.{MayRead, ReadsLine, Misses, ReadsOneAtMost, ReadFails};
 ghost use Rattle.transcript_check.specs.Checkers.{with_input, IsChecker};
-ghost use Rattle.transcript_check.specs.Packets.{fed_with, TakesFed, MissesFed, BeginsFed};
+ghost use Rattle.transcript_check.specs.Packets.{TakesFed, MissesFed, BeginsFed};
 ghost use Rattle.transcript_check.specs.Audits.{OpensFrame};
 
 use super::Checker;
@@ -76,11 +76,11 @@ impl Checker {
         requires moves { self.old.moves ≤ MOST_FRAME_MOVES * self.old.frames }
         requires may { MayRead S.Source self.old.input source.old }
         ensures ok { IfOk result (λ is. OnTrue is
-            (TakesFed S.Source fed_with source.old source.new self.old self.new)) }
+            (TakesFed S.Source source.old source.new self.old self.new)) }
         ensures missed { IfOk result (λ is. OnFalse is
-            (MissesFed S.Source fed_with source.old source.new self.old)) }
+            (MissesFed S.Source source.old source.new self.old)) }
         ensures looked { IfOk result (λ is. OnFalse is
-            (BeginsFed S.Source fed_with source.old source.new self.old self.new)) }
+            (BeginsFed S.Source source.old source.new self.old self.new)) }
         ensures err { IfErr result (ReadFails S.Source source.old source.new self.old.input) }
     {
         if !self.read_packets(packets, source)? {

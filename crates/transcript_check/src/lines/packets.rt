@@ -1,6 +1,11 @@
 ghost use Rattle.std.specs.Prelude.{◌≡◌, ◌≤◌, true, [], length, Some, IfOk, IfErr, IfSome};
 ghost use Rattle.std.specs.Bool.{OnTrue, OnFalse};
+ghost use Rattle.std.specs.Option.{option_map};
+ghost use Rattle.packet_read.specs.declared.arrival.Arrival as specs;
 ghost use Rattle.packet_read.specs.declared.arrival.TheConstants.{MOST_BYTES};
+ghost use Rattle.out_text.specs.Feeds.{from_line};
+ghost use Rattle.out_text.specs.Printing.{line_of};
+ghost use Rattle.out_text.specs.Ranges.{HasRoom};
 ghost use Rattle.transcript_check.specs.Reading.{MayRead, without_held, IsRestLine, Misses, ReadFails, ReadsBeginning};
 ghost use Rattle.transcript_check.specs.Packets.{IsPacketLine, TakesPacket, HasNoPacket, ArePackets, HasNoPackets, ReadsPackets};
 
@@ -22,19 +27,28 @@ fn arrival_of(port: u16, bytes: &[u8]) -> Arrival
     Arrival { port, bytes: own }
 }
 
+/// The packet of a line of the output, if it is that of one.
+fn packet_of(line: Option<OutLine>) -> Option<Arrival>
+    requires { IfSome (option_map line_of line) HasRoom }
+    ensures some { IfSome result (λ a. option_map line_of line.entry ≡ Some (from_line a)) }
+    ensures only { (a : specs.Arrival) → option_map line_of line.entry ≡ Some (from_line a) → result ≡ Some a }
+{
+    match line {
+        Some(OutLine::From { port, bytes }) => Some(arrival_of(port, bytes)),
+        _ => None,
+    }
+}
+
 /// The packet that a line has, if it has one and a line of a recording has room for it.
 fn packet_in(line: &[u8], bytes: &mut ReplyBuf) -> Option<Arrival>
     requires { bytes.old ≡ [] }
     ensures some { IfSome result (IsPacketLine line.now) }
-    ensures only { (a : Arrival) → IsPacketLine line.now a → result ≡ Some a }
+    ensures only { (a : specs.Arrival) → IsPacketLine line.now a → result ≡ Some a }
 {
     if line.len() > LONGEST {
         return None;
     }
-    match read_line(line, bytes) {
-        Some(OutLine::From { port, bytes }) => Some(arrival_of(port, bytes)),
-        _ => None,
-    }
+    packet_of(read_line(line, bytes))
 }
 
 impl Lines {
