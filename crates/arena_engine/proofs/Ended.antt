@@ -95,7 +95,7 @@ module _ {S K : Type 0} (s : sources.Ghosts S) (k : sinks.Ghosts K) (feeding : F
       → OnWriteFault stop (Plays feeding workers g g2 e (λ lines. length (text_of lines) ≤ k.room sink → ⊥))
       → OnMemory stop (sink' ≡ sink) → OnMemory stop (g2.last ≡ g.last) → k.faults sink ≤ k.faults sink'
       → PlaysTo s k (texts_of feeding workers) source0 source sink0 sink' g2.last (Err stop)
-  game_stopped sink' g2 (Refused line fault rule) never failed short same kept later = absurd never
+  game_stopped sink' g2 (Refused why) never failed short same kept later = absurd never
   game_stopped sink' g2 ReadFault never failed short same kept later = absurd never
   game_stopped sink' g2 WriteFault stops failed short same kept later = record {
     output = running.write_failed feeding workers demo before left (k.taken sink0) (k.taken sink) g e (s.faults source0) (s.faults source) (k.faults sink0) (k.faults sink) (k.room sink0) (k.room sink) at.runs k.taken k.faults sink sink' WriteFault g2 g2.last refl refl failed;
@@ -185,7 +185,7 @@ order_of_next feeding workers g g' e P plays is =
 -- and when it stopped
 pub order_when_stopped : (feeding : Feeding) (workers : ℕ) (g g' : GameView) (e : Event) (stop : Stop) (P : List OutLine → Type 0) → IsGameStop stop → OnWriteFault stop (Plays feeding workers g g' e P) → OnMemory stop (g'.last ≡ g.last)
     → MayHaveOrder feeding g.last.order → MayHaveOrder feeding g'.last.order
-order_when_stopped feeding workers g g' e (Refused line fault rule) P never failed kept is = absurd never
+order_when_stopped feeding workers g g' e (Refused why) P never failed kept is = absurd never
 order_when_stopped feeding workers g g' e ReadFault P never failed kept is = absurd never
 order_when_stopped feeding workers g g' e WriteFault P stops failed kept is = order_of_next feeding workers g g' e P failed is
 order_when_stopped feeding workers g g' e NoMemory P stops failed kept is = subst (λ (l : Last). MayHaveOrder feeding l.order) (sym kept) is

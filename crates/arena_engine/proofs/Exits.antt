@@ -11,7 +11,8 @@ use Rattle.demo_lines.specs.declared.event.Event.{Event}
 use Rattle.demo_lines.specs.Recording.{next, events_of_line, after, events_of}
 use Rattle.edge_io.specs.Lines.{HasNoLineFeed}
 use Rattle.edge_io.specs.WholeLines.{unlines}
-use Rattle.demo_lines.specs.Bytes.{LineRefusal, lines_of, events, fault}
+use Rattle.demo_lines.specs.declared.line_refusal.LineRefusal.{LineRefusal}
+use Rattle.demo_lines.specs.Bytes.{lines_of, events, fault}
 use Rattle.demo_lines.specs.Reads.{Reads, ReadsFront, EndsAt}
 use Rattle.demo_lines.proofs.Machines.{run_of-append, outputs_of-append}
 use Rattle.demo_lines.proofs.Parts.{lines_of-unlines}

@@ -7,7 +7,8 @@ use Rattle.packet_read.specs.Orders.{in_order, AreEachOnce}
 use Rattle.plain_server.specs.RecordsById.{opening}
 use Rattle.plain_server.specs.Frames.{received_in, state_played}
 use Rattle.plain_server.proofs.Turns.{right_count}
-use Rattle.demo_lines.specs.Bytes.{LineRefusal, events, fault}
+use Rattle.demo_lines.specs.declared.line_refusal.LineRefusal.{LineRefusal}
+use Rattle.demo_lines.specs.Bytes.{events, fault}
 use Rattle.out_text.specs.OutLines.{OutLine, EndLine, text_of}
 use Rattle.out_text.specs.FrameLines.{lines_with, run_lines}
 use Rattle.out_text.specs.Collecting.{frames_of_events, frames_of}

@@ -12,6 +12,7 @@ pub mod Playing
 pub mod Running
 pub mod Ended
 pub mod Reported
+pub mod Stopped
 pub mod Summing
 pub mod MapRead
 pub mod WaysReported

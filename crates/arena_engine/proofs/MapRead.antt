@@ -13,7 +13,8 @@ use Rattle.demo_lines.specs.declared.event.Event.TheVariants.{Frame, From, End}
 use Rattle.demo_lines.specs.declared.demo_stop.DemoStop.{DemoStop}
 use Rattle.demo_lines.specs.declared.demo_stop.DemoStop.TheVariants as demo_stop
 use Rattle.demo_lines.specs.Known.{Reading, start, is_map_whole, is_over}
-use Rattle.demo_lines.specs.Bytes.{LineRefusal, last_part, lines_of, refused_at, refused_where, fault_in, fault, map_of}
+use Rattle.demo_lines.specs.declared.line_refusal.LineRefusal.{LineRefusal}
+use Rattle.demo_lines.specs.Bytes.{last_part, lines_of, refused_at, refused_where, fault_in, fault, map_of}
 use Rattle.demo_lines.specs.Reads.{DemoReaderView, fresh_reader, IsOpen, Reads, EndsAt, KeepsMap, TakesCutEnd, stage_after}
 use Rattle.demo_lines.proofs.Ends.{after-over}
 use Rattle.demo_lines.proofs.Joins.{Reads-trans}

@@ -3,7 +3,8 @@ use Rattle.std.proofs.Common.{◌≡◌, ℕ, true, false, List, [], Option, Som
 use Rattle.edge_io.specs.declared.source.Source as sources
 use Rattle.edge_io.specs.declared.sink.Sink as sinks
 use Rattle.edge_io.specs.Counts.{HasRisen}
-use Rattle.demo_lines.specs.Bytes.{LineRefusal, fault}
+use Rattle.demo_lines.specs.declared.line_refusal.LineRefusal.{LineRefusal}
+use Rattle.demo_lines.specs.Bytes.{fault}
 use Rattle.playback.specs.Playbacks.{entries_if}
 use Rattle.arena_engine.specs.declared.stop.Stop.{Stop}
 use Rattle.arena_engine.specs.declared.stop.Stop.TheVariants.{Refused, ReadFault, WriteFault, NoMemory}
@@ -137,7 +138,7 @@ module _ {S K : Type 0} (s : sources.Ghosts S) (k : sinks.Ghosts K) (texts : Tex
   -- whichever way its playing ended
   reported_as : (ended : Result Unit Stop) → r.status ≡ status_of ended → refusal_of r ≡ place_of ended → PlaysTo s k texts source source' sink sink' (last_in r) ended → IsPlayedWith s k texts source source' sink sink' r
   reported_as (Ok done) status place plays = all_reported status plays
-  reported_as (Err (Refused line fault rule)) status place plays =
+  reported_as (Err (Refused why)) status place plays =
       refusal_reported status (subst (λ (why : LineRefusal). StopsAtRefusal s k texts source source' sink sink' (last_in r) why) (sym place) plays)
   reported_as (Err ReadFault) status place plays = read_fault_reported status plays
   reported_as (Err WriteFault) status place plays = write_fault_reported status plays
@@ -176,7 +177,7 @@ module _ {S K : Type 0} (s : sources.Ghosts S) (k : sinks.Ghosts K) (workers : �
   }
 
 -- a report without a refused line names no place
-placeless : (r : Report) → refusal_of r ≡ record { line = 0; fault = 0; rule = 0 } → (r.line ≡ 0) × (r.fault ≡ 0) × (r.rule ≡ 0)
+pub placeless : (r : Report) → refusal_of r ≡ record { line = 0; fault = 0; rule = 0 } → (r.line ≡ 0) × (r.fault ≡ 0) × (r.rule ≡ 0)
 placeless r none = (ap (λ (w : LineRefusal). w.line) none, ap (λ (w : LineRefusal). w.fault) none, ap (λ (w : LineRefusal). w.rule) none)
 
 module _ {S K : Type 0} (s : sources.Ghosts S) (k : sinks.Ghosts K) (texts : Texts) (source source' : S) (sink sink' : K) (r : Report) where
@@ -213,7 +214,7 @@ module _ {S K : Type 0} (s : sources.Ghosts S) (k : sinks.Ghosts K) (texts : Tex
   -- whichever way its playing ended
   ends_as : (ended : Result Unit Stop) → r.status ≡ status_of ended → refusal_of r ≡ place_of ended → PlaysTo s k texts source source' sink sink' (last_in r) ended → Ends s k source source' sink sink' r
   ends_as (Ok done) status place plays = all_ends status (placeless r place) plays
-  ends_as (Err (Refused line fault rule)) status place plays =
+  ends_as (Err (Refused why)) status place plays =
       refusal_ends status (subst (λ (why : LineRefusal). StopsAtRefusal s k texts source source' sink sink' (last_in r) why) (sym place) plays)
   ends_as (Err ReadFault) status place plays = read_fault_ends status (placeless r place) plays
   ends_as (Err WriteFault) status place plays = write_fault_ends status (placeless r place) plays

@@ -12,7 +12,7 @@ use Rattle.demo_lines.specs.declared.event.Event.TheVariants.{Frame, From, End}
 use Rattle.demo_lines.specs.declared.demo_stop.DemoStop.{DemoStop}
 use Rattle.demo_lines.specs.declared.demo_stop.DemoStop.TheVariants as demo_stop
 use Rattle.demo_lines.specs.Known.{Reading, start, is_over, is_map_whole, without_map, having_map}
-use Rattle.demo_lines.specs.Bytes.{LineRefusal}
+use Rattle.demo_lines.specs.declared.line_refusal.LineRefusal.{LineRefusal}
 use Rattle.demo_lines.specs.Readings.{IsReading}
 use Rattle.demo_lines.specs.Reads.{DemoReaderView, fresh_reader, map_taken, IsOpen, Reads, ReadsFront, TakesCutEnd, Refuses, EndsAt, stage_after}
 use Rattle.demo_lines.specs.Reads as reads_of
@@ -124,7 +124,7 @@ module _ (feeding : Feeding) (workers : ℕ) (demo : DemoReaderView) (a b t0 t1 
 
   pub memory_failed : (s : Stop) (g2 : GameView) (t2 : Option (List ℕ)) (last : Last) → last ≡ g2.last → OnMemory s (g2.last ≡ g.last) → OnMemory s (t2 ≡ t1)
       → OnMemory s (IfSome a (λ bytes. Writes t0 t2 ((texts_of feeding workers).some_frames bytes last)))
-  memory_failed (Refused line fault rule) g2 t2 last is kept same = tt
+  memory_failed (Refused why) g2 t2 last is kept same = tt
   memory_failed ReadFault g2 t2 last is kept same = tt
   memory_failed WriteFault g2 t2 last is kept same = tt
   memory_failed NoMemory g2 t2 last is kept same =
@@ -162,7 +162,7 @@ module _ (feeding : Feeding) (workers : ℕ) (demo : DemoReaderView) (a b t0 t1 
 
   pub write_failed : {K : Type 0} (taken : K → Option (List ℕ)) (faults : K → ℕ) (k1 k2 : K) (s : Stop) (g2 : GameView) (last : Last) → taken k1 ≡ t1 → last ≡ g2.last
       → OnWriteFault s (Plays feeding workers g g2 e (λ lines. FailsIn taken faults k1 k2 (text_of lines))) → OnWriteFault s (IfSome a (λ bytes. Writes t0 (taken k2) ((texts_of feeding workers).cut bytes last)))
-  write_failed taken faults k1 k2 (Refused line fault rule) g2 last here is failed = tt
+  write_failed taken faults k1 k2 (Refused why) g2 last here is failed = tt
   write_failed taken faults k1 k2 ReadFault g2 last here is failed = tt
   write_failed taken faults k1 k2 WriteFault g2 last here is failed =
       let P : Last → Type 0 = λ l. IfSome a (λ bytes. Writes t0 (taken k2) ((texts_of feeding workers).cut bytes l)) in
@@ -173,14 +173,14 @@ module _ (feeding : Feeding) (workers : ℕ) (demo : DemoReaderView) (a b t0 t1 
   -- a write that failed was counted
   pub write_counted : {K : Type 0} (taken : K → Option (List ℕ)) (faults : K → ℕ) (k1 k2 : K) (s : Stop) (g2 : GameView) → faults k1 ≡ n1
       → OnWriteFault s (Plays feeding workers g g2 e (λ lines. FailsIn taken faults k1 k2 (text_of lines))) → OnWriteFault s (HasRisen n0 (faults k2))
-  write_counted taken faults k1 k2 (Refused line fault rule) g2 here failed = tt
+  write_counted taken faults k1 k2 (Refused why) g2 here failed = tt
   write_counted taken faults k1 k2 ReadFault g2 here failed = tt
   write_counted taken faults k1 k2 WriteFault g2 here failed = subst (λ (n : ℕ). HasRisen n (faults k2)) (here ∙ runs.write_same) failed.lines.risen
   write_counted taken faults k1 k2 NoMemory g2 here failed = tt
 
   -- where the sink has room for every right output, this text fits
   pub not_cut : (s : Stop) (g2 : GameView) → OnWriteFault s (Plays feeding workers g g2 e (λ lines. length (text_of lines) ≤ k1 → ⊥)) → IsSomeAnd a (λ bytes. (texts_of feeding workers).has_room bytes k0) → OnWriteFault s ⊥
-  not_cut (Refused line fault rule) g2 sure roomy = tt
+  not_cut (Refused why) g2 sure roomy = tt
   not_cut ReadFault g2 sure roomy = tt
   not_cut WriteFault g2 sure roomy = sure.lines (fits_on feeding workers runs.arena runs.full a b t0 t1 g e runs.progress g2 sure.closed sure.advances k0 k1 roomy runs.roomy)
   not_cut NoMemory g2 sure roomy = tt

@@ -1,6 +1,7 @@
 -- In what was written each item has one taker, until its delay is over.
 use Rattle.std.proofs.Common.{◌≡◌, ℕ, List, Option, Some, None, IfSome}
-use Rattle.demo_lines.specs.Bytes.{LineRefusal, fault, map_of}
+use Rattle.demo_lines.specs.declared.line_refusal.LineRefusal.{LineRefusal}
+use Rattle.demo_lines.specs.Bytes.{fault, map_of}
 use Rattle.out_text.specs.Journals.{dids}
 use Rattle.out_text.specs.OneTaker.{HasOneTakerEach}
 use Rattle.out_text.specs.Feeds.{froms}

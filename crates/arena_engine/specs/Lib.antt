@@ -26,6 +26,7 @@ pub use Rattle.demo_make.specs.GeneratedFrames
 pub use Rattle.demo_make.specs.ResentFrames
 pub use Rattle.match_play.specs.Matches
 pub use Rattle.transcript_check.specs.Verdicts
+pub use Rattle.transcript_check.specs.Audits
 pub use Rattle.bot_ways.specs.Walks as BotWalks
 pub use Rattle.bot_ways.specs.Ways as BotWays
 pub use Rattle.bot_ways.specs.PlanTexts
@@ -36,6 +37,7 @@ pub mod Summaries
 pub mod Laws
 pub mod Endings
 pub mod Making
+pub mod Explained
 pub mod Feedings
 pub mod Games
 pub mod StopOf
@@ -48,6 +50,7 @@ pub mod Reports
 pub mod Serving
 pub mod Played
 pub mod Planned
+pub mod Judgments
 pub mod Checked
 pub mod MapReads
 pub mod Served

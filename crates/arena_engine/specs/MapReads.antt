@@ -4,7 +4,8 @@ use Rattle.edge_io.specs.declared.source.Source as sources
 use Rattle.edge_io.specs.declared.sink.Sink as sinks
 use Rattle.edge_io.specs.Counts.{HasRisen}
 use Rattle.arena_map.specs.Maps.{MapView}
-use Rattle.demo_lines.specs.Bytes.{LineRefusal, fault, map_of}
+use Rattle.demo_lines.specs.declared.line_refusal.LineRefusal.{LineRefusal}
+use Rattle.demo_lines.specs.Bytes.{fault, map_of}
 use Rattle.demo_lines.specs.declared.demo_stop.DemoStop.{DemoStop}
 use Rattle.demo_lines.specs.declared.demo_stop.DemoStop.TheVariants.{Refused, ReadFault, NoMemory}
 use Rattle.bot_ways.specs.declared.plan_stop.PlanStop.{PlanStop}

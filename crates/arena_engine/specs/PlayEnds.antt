@@ -3,7 +3,7 @@ use Rattle.std.specs.Prelude.{◌≡◌, ◌≤◌, true, Result, Ok, Err, IfSom
 use Rattle.edge_io.specs.declared.source.Source as sources
 use Rattle.edge_io.specs.declared.sink.Sink as sinks
 use Rattle.edge_io.specs.Counts.{HasRisen}
-use Rattle.demo_lines.specs.Bytes.{LineRefusal}
+use Rattle.demo_lines.specs.declared.line_refusal.LineRefusal.{LineRefusal}
 use Rattle.arena_engine.specs.declared.stop.Stop.{Stop}
 use Rattle.arena_engine.specs.declared.stop.Stop.TheVariants.{Refused, ReadFault, WriteFault, NoMemory}
 use Rattle.arena_engine.specs.Output.{Writes, ReadsSome, ReadsToEnd, ReadsToRefusal}
@@ -55,7 +55,7 @@ module _ {S K : Type 0} (s : sources.Ghosts S) (k : sinks.Ghosts K) (texts : Tex
   -- what holds where the playing ended so, and this is the last frame that was run
   abbrev pub PlaysTo : Result Unit Stop → Type 0
   PlaysTo (Ok done) = PlaysAll
-  PlaysTo (Err (Refused line fault rule)) = StopsAtRefusal (record { line = line; fault = fault; rule = rule })
+  PlaysTo (Err (Refused why)) = StopsAtRefusal why
   PlaysTo (Err ReadFault) = StopsAtReadFault
   PlaysTo (Err WriteFault) = StopsAtWriteFault
   PlaysTo (Err NoMemory) = StopsAtMemory

@@ -1,6 +1,6 @@
 -- What a report says of a recording that was played.
 use Rattle.std.specs.Prelude.{◌≡◌, ℕ, [], Result, Ok, Err}
-use Rattle.demo_lines.specs.Bytes.{LineRefusal}
+use Rattle.demo_lines.specs.declared.line_refusal.LineRefusal.{LineRefusal}
 use Rattle.playback.specs.Playbacks.{entries_if}
 use Rattle.arena_engine.specs.declared.stop.Stop.{Stop}
 use Rattle.arena_engine.specs.declared.stop.Stop.TheVariants.{Refused, ReadFault, WriteFault, NoMemory}
@@ -25,7 +25,7 @@ last_of played = record { order = played.order; journal = entries_if played.last
 -- the status of each end
 abbrev pub status_of : Result Unit Stop → ℕ
 status_of (Ok done) = 0
-status_of (Err (Refused line fault rule)) = 1
+status_of (Err (Refused why)) = 1
 status_of (Err ReadFault) = 3
 status_of (Err WriteFault) = 4
 status_of (Err NoMemory) = 5
@@ -33,7 +33,7 @@ status_of (Err NoMemory) = 5
 -- the line that was refused, its fault and its rule, and 0 for each where none was
 abbrev pub place_of : Result Unit Stop → LineRefusal
 place_of (Ok done) = record { line = 0; fault = 0; rule = 0 }
-place_of (Err (Refused line fault rule)) = record { line = line; fault = fault; rule = rule }
+place_of (Err (Refused why)) = why
 place_of (Err ReadFault) = record { line = 0; fault = 0; rule = 0 }
 place_of (Err WriteFault) = record { line = 0; fault = 0; rule = 0 }
 place_of (Err NoMemory) = record { line = 0; fault = 0; rule = 0 }

@@ -3,12 +3,14 @@ use Rattle.std.specs.Prelude.{◌≡◌, None, ⊤}
 use Rattle.edge_io.specs.declared.source.Source as sources
 use Rattle.edge_io.specs.declared.sink.Sink as sinks
 use Rattle.arena_engine.specs.declared.command.Command.{Command}
-use Rattle.arena_engine.specs.declared.command.Command.TheVariants.{Play, Feed, Make, Resend, Match, Bots, Check}
+use Rattle.arena_engine.specs.declared.command.Command.TheVariants.{Play, Feed, Make, Resend, Match, Bots, Check, Audit, Help, Version}
+use Rattle.arena_engine.specs.declared.commands.explain.TheConstants.{HELP, VERSION}
 use Rattle.arena_engine.specs.declared.report.Report.{Report}
 use Rattle.arena_engine.specs.Making.{IsMade, IsResent, IsMatched}
 use Rattle.arena_engine.specs.Played.{IsPlayed, IsFed}
 use Rattle.arena_engine.specs.Planned.{IsPlanned}
-use Rattle.arena_engine.specs.Checked.{IsChecked}
+use Rattle.arena_engine.specs.Checked.{IsChecked, IsAudited}
+use Rattle.arena_engine.specs.Explained.{IsExplained}
 
 -- P, and nothing was read
 pub record Unread {S : Type 0} (source source' : S) (P : Type 0) : Type 0 where
@@ -26,6 +28,9 @@ IsServed s k source source' sink sink' r (Match seed players frames workers) =
     Unread source source' (IsMatched k seed players frames workers sink sink' r)
 IsServed s k source source' sink sink' r (Bots target) = IsPlanned s k target source source' sink sink' r
 IsServed s k source source' sink sink' r Check = IsChecked s k source source' sink sink' r
+IsServed s k source source' sink sink' r Audit = IsAudited s k source source' sink sink' r
+IsServed s k source source' sink sink' r Help = Unread source source' (IsExplained k HELP.now sink sink' r)
+IsServed s k source source' sink sink' r Version = Unread source source' (IsExplained k VERSION.now sink sink' r)
 
 -- no order of arrival is in the report of a command but `feed`
 abbrev pub HasNoOrder : Report → Command → Type 0
@@ -36,3 +41,6 @@ HasNoOrder r (Resend seed players frames) = r.order ≡ None
 HasNoOrder r (Match seed players frames workers) = r.order ≡ None
 HasNoOrder r (Bots target) = r.order ≡ None
 HasNoOrder r Check = r.order ≡ None
+HasNoOrder r Audit = r.order ≡ None
+HasNoOrder r Help = r.order ≡ None
+HasNoOrder r Version = r.order ≡ None

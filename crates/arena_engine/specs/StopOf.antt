@@ -5,6 +5,6 @@ use Rattle.arena_engine.specs.declared.stop.Stop.{Stop}
 use Rattle.arena_engine.specs.declared.stop.Stop.TheVariants.{Refused, ReadFault, NoMemory}
 
 abbrev pub stop_of : DemoStop → Stop
-stop_of (demo.Refused line fault rule) = Refused line fault rule
+stop_of (demo.Refused line fault rule) = Refused (record { line = line; fault = fault; rule = rule })
 stop_of demo.ReadFault = ReadFault
 stop_of demo.NoMemory = NoMemory

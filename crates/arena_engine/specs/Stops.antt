@@ -1,12 +1,12 @@
 -- Why a recording isn't played on.
 use Rattle.std.specs.Prelude.{⊤}
-use Rattle.demo_lines.specs.Bytes.{LineRefusal}
+use Rattle.demo_lines.specs.declared.line_refusal.LineRefusal.{LineRefusal}
 use Rattle.arena_engine.specs.declared.stop.Stop.{Stop}
 use Rattle.arena_engine.specs.declared.stop.Stop.TheVariants.{Refused, ReadFault, WriteFault, NoMemory}
 
 -- P of the refusal, where a line of the recording was refused
 abbrev pub OnRefused : Stop → (LineRefusal → Type 0) → Type 0
-OnRefused (Refused line fault rule) P = P (record { line = line; fault = fault; rule = rule })
+OnRefused (Refused why) P = P why
 OnRefused _ _ = ⊤
 
 -- P, where the source failed
@@ -36,7 +36,7 @@ ButOnWriteFault _ P = P
 
 -- what a game stops for: a write fault or lack of memory
 abbrev pub IsGameStop : Stop → Type 0
-IsGameStop (Refused line fault rule) = ⊥
+IsGameStop (Refused why) = ⊥
 IsGameStop ReadFault = ⊥
 IsGameStop WriteFault = ⊤
 IsGameStop NoMemory = ⊤

@@ -1,6 +1,6 @@
 -- Which texts a command writes of a recording that it plays, by how that ends.
 use Rattle.std.specs.Prelude.{ℕ, List}
-use Rattle.demo_lines.specs.Bytes.{LineRefusal}
+use Rattle.demo_lines.specs.declared.line_refusal.LineRefusal.{LineRefusal}
 use Rattle.out_text.specs.Output.{HasLast, IsOutput, IsRefused, IsAllFrames, IsSomeFrames, IsCut}
 use Rattle.out_text.specs.Feeds.{HasLastFed, IsFedOutput, IsFedRefused, IsFedFrames, IsFedSome, IsFedCut}
 use Rattle.arena_engine.specs.Output.{HasRoom, HasFedRoom}

@@ -65,6 +65,12 @@ pub enum Command {
     },
     /// Reads a recording from the source, and after it an output, and says whether it is one of the recording.
     Check,
+    /// Reads the lines of a map from the source, and after them the log of a match, and says whether it is right.
+    Audit,
+    /// Writes what the words are and what the statuses mean.
+    Help,
+    /// Writes the program's version.
+    Version,
 }
 
 /// The command `play` with this word.
@@ -143,8 +149,9 @@ fn bots(target: &str) -> Option<Command>
 }
 
 /// The command that the words ask for, and `None` exactly where they are those of no command: `play N`, `feed N`,
-/// `make SEED PLAYERS FRAMES`, `resend SEED PLAYERS FRAMES`, `match SEED PLAYERS FRAMES N`, `bots TARGET` or `check`,
-/// where each number is in its range, in decimal digits without a sign and without a leading zero, 0 itself excepted.
+/// `make SEED PLAYERS FRAMES`, `resend SEED PLAYERS FRAMES`, `match SEED PLAYERS FRAMES N`, `bots TARGET`, `check`,
+/// `audit`, `help` or `version`, the last two also as `--help` and `--version`, where each number is in its range, in
+/// decimal digits without a sign and without a leading zero, 0 itself excepted.
 pub fn command_of(words: &[&str]) -> Option<Command>
     ensures some { IfSome result (Spells (contents words.now)) }
     ensures only { (c : Command) → Spells (contents words.now) c → result ≡ Some c }
@@ -156,6 +163,11 @@ pub fn command_of(words: &[&str]) -> Option<Command>
         ["resend", seed, players, frames] => resend(seed, players, frames),
         ["match", seed, players, frames, workers] => match_of(seed, players, frames, workers),
         ["check"] => Some(Command::Check),
+        ["audit"] => Some(Command::Audit),
+        ["help"] => Some(Command::Help),
+        ["--help"] => Some(Command::Help),
+        ["version"] => Some(Command::Version),
+        ["--version"] => Some(Command::Version),
         ["bots", target] => bots(target),
         _ => None,
     }

@@ -47,7 +47,9 @@ mod summary;
 /// source, and writes one of the same map in which a bot walks the shortest way from spawn 0 to spawn TARGET, with the
 /// way and the least lengths after its line `end`. `check` reads a recording of at most 2,000 frames and what follows
 /// it, and writes one line where that is an output of the recording; what follows the line `end K` of the output isn't
-/// looked at.
+/// looked at. `audit` reads the lines of a map and the log of a match after them, as `feed` writes it, and writes the same
+/// line where that is right; it keeps one frame of the log. `help` and `--help` write what the words and the statuses are,
+/// `version` and `--version` the version, and read nothing.
 ///
 /// The moves of a frame run at the same time, where there is more than one worker, and each frame's journal has them
 /// one after another: its entries are those of the moves run in this order. One worker runs them in the order of
@@ -56,8 +58,8 @@ mod summary;
 /// The report's status says how it ended:
 ///
 /// - 0: the recording was read to its line `end`, and its whole output was written; or the recording that was made or
-/// resent, or the line of the match, was written whole; or what a way comes to was; or the output that was checked is
-/// right.
+/// resent, or the line of the match, was written whole; or what a way comes to was; or the output or the log that was judged
+/// is right; or what explains the program was written.
 /// - 1: a line of the recording has a fault; the report has the number of the first one, its first fault, and the rule
 /// of the map that it breaks. The frames that were closed before it are written.
 /// - 2: the words ask for nothing. Nothing is read or written.
@@ -65,8 +67,8 @@ mod summary;
 /// - 4: a write failed. A front of what was to be written is: of an output, all frames but the last are whole.
 /// - 5: there was not enough memory. Of an output, whole frames are written; of what is made, resent, summed or planned,
 /// nothing.
-/// - 6: the output that was checked is wrong; the report has the number, in the whole input, of the first line of the
-/// first piece that is wrong: of a frame, or of the last line. Nothing is written.
+/// - 6: the output or the log that was judged is wrong; the report has the number, in the whole input, of the first line
+/// of the first piece that is wrong: of a frame, or of the last line. Nothing is written.
 /// - 7: there is no way to the spawn. Where the map has no such spawn nothing is written, and where no walk leads there
 /// the least lengths, which show it.
 ///

@@ -5,8 +5,10 @@ ghost use Rattle.arena_engine.specs.Served.{IsServed, HasNoOrder};
 ghost use Rattle.move_phase.specs.Serving.{AreWorkers};
 
 use crate::command::Command;
+use crate::commands::audit::audit_log;
 use crate::commands::bots::plan_recording;
 use crate::commands::check::check_transcript;
+use crate::commands::explain::{HELP, VERSION, explain};
 use crate::commands::make::{write_made, write_resent};
 use crate::commands::match_seed::play_and_sum;
 use crate::commands::play::{feed_recording, play_recording};
@@ -89,6 +91,9 @@ pub fn perform<R: Threads + Wait + Sync, S: Source, K: Sink, G: Gate>(
             play_and_sum(&host, seed, players, frames, sink)
         }
         Some(Command::Check) => check_transcript(alloc, source, sink),
+        Some(Command::Audit) => audit_log(alloc, source, sink),
         Some(Command::Bots { target }) => plan_recording(alloc, target, source, sink),
+        Some(Command::Help) => explain(alloc, HELP, sink),
+        Some(Command::Version) => explain(alloc, VERSION, sink),
     }
 }

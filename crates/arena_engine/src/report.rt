@@ -1,6 +1,6 @@
-ghost use Rattle.std.specs.Prelude.{◌≡◌, [], None};
-
 use crate::status::Status;
+use crate::stop::Stop;
+use demo_lines::LineRefusal;
 use feed_queue::ArrivalOrder;
 use move_journal::{Journal, JournalList};
 use std::alloc::Global;
@@ -11,8 +11,8 @@ pub struct Report {
     /// The status, which the program ends with: 0 done, 1 recording refused, 2 words refused, 3 read fault, 4 write
     /// fault, 5 lack of memory, 6 transcript refused, 7 no way.
     pub status: u8,
-    /// The number of the refused line, from 1; of a transcript that is wrong, that of the first line of its first wrong
-    /// piece, in the whole input; 0 for every other status.
+    /// The number of the refused line, from 1; of a transcript or log that is wrong, that of the first line of its first
+    /// wrong piece, in the whole input; 0 for every other status.
     pub line: u64,
     /// The refused line's fault, 1 to 10; where there is no way 1 if the map has no such spawn, and 2 if no walk leads to
     /// it; 0 for every other status.
@@ -29,7 +29,8 @@ pub struct Report {
 }
 
 impl Report {
-    ghost use Rattle.arena_engine.specs.Reports.{refusal_of};
+    ghost use Rattle.std.specs.Prelude.{◌≡◌, [], None, Err};
+    ghost use Rattle.arena_engine.specs.Reports.{place_of, refusal_of, status_of};
     ghost use Rattle.arena_engine.specs.Statuses.{number_of};
 
     /// A report of a status alone, without journals.
@@ -102,19 +103,14 @@ impl Report {
     }
 
     /// A report that this line was refused for this fault, with the journal of the last frame before it.
-    pub(crate) fn of_refusal(
-        line: u64,
-        fault: u8,
-        rule: u8,
-        last: Option<Journal>,
-        all: JournalList,
-    ) -> Report
+    fn of_refusal(refusal: LineRefusal, last: Option<Journal>, all: JournalList) -> Report
         ensures status { result.status ≡ 1 }
-        ensures place { refusal_of result ≡ record { line = line; fault = fault; rule = rule } }
+        ensures place { refusal_of result ≡ refusal }
         ensures last { result.last ≡ last }
         ensures order { result.order ≡ None }
         ensures all { result.all ≡ all }
     {
+        let LineRefusal { line, fault, rule } = refusal;
         Report {
             status: Status::RecordingRefused.number(),
             line,
@@ -123,6 +119,23 @@ impl Report {
             last,
             order: None,
             all,
+        }
+    }
+
+    /// A report that a recording isn't read or played on, with the journal of the last frame before that.
+    pub(crate) fn of_stop(stop: Stop, last: Option<Journal>, all: JournalList) -> Report
+        ensures status { result.status ≡ status_of (Err stop) }
+        ensures place { refusal_of result ≡ place_of (Err stop) }
+        ensures last { result.last ≡ last }
+        ensures order { result.order ≡ None }
+        ensures all { result.all ≡ all }
+        ensures served { result.status ≡ 2 → ⊥ }
+    {
+        match stop {
+            Stop::Refused(refusal) => Report::of_refusal(refusal, last, all),
+            Stop::ReadFault => Report::of_status(Status::ReadFault, last, all),
+            Stop::WriteFault => Report::of_status(Status::WriteFault, last, all),
+            Stop::NoMemory => Report::of_status(Status::NoMemory, last, all),
         }
     }
 

@@ -13,7 +13,7 @@ pub enum Status {
     WriteFault,
     /// There was not enough memory.
     NoMemory,
-    /// The output that was checked is wrong.
+    /// The output or the log that was judged is wrong.
     TranscriptRefused,
     /// There is no way to the spawn.
     NoWay,

@@ -2,7 +2,7 @@ ghost use Rattle.std.specs.Prelude.{◌≡◌};
 ghost use Rattle.arena_engine.specs.declared.stop.Stop.TheVariants.{NoMemory, WriteFault};
 ghost use Rattle.arena_engine.specs.StopOf.{stop_of};
 
-use demo_lines::DemoStop;
+use demo_lines::{DemoStop, LineRefusal};
 use edge_io::Failed;
 use std::alloc::{AllocError, AllocFailed};
 use thiserror::Error;
@@ -12,14 +12,7 @@ use thiserror::Error;
 pub enum Stop {
     /// A line of the recording was refused.
     #[error("recording refused")]
-    Refused {
-        /// The line's number, from 1.
-        line: u64,
-        /// Its fault, 1 to 10.
-        fault: u8,
-        /// The rule of the map that it breaks, 1 to 8, or 0 where it breaks none.
-        rule: u8,
-    },
+    Refused(LineRefusal),
     /// The source failed.
     #[error("read fault")]
     ReadFault,
@@ -60,7 +53,9 @@ impl From<DemoStop> for Stop {
 
     fn from(stop: DemoStop) -> Stop {
         match stop {
-            DemoStop::Refused { line, fault, rule } => Stop::Refused { line, fault, rule },
+            DemoStop::Refused { line, fault, rule } => {
+                Stop::Refused(LineRefusal { line, fault, rule })
+            }
             DemoStop::ReadFault => Stop::ReadFault,
             DemoStop::NoMemory => Stop::NoMemory,
         }

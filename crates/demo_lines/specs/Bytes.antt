@@ -6,6 +6,7 @@ use Rattle.arena_map.specs.Maps.{MapView}
 use Rattle.demo_lines.specs.declared.stage.Stage.{Stage}
 use Rattle.demo_lines.specs.declared.stage.Stage.TheVariants.{Start, Map, Playing, Ended, Refused}
 use Rattle.demo_lines.specs.declared.line_fault.LineFault.{LineFault}
+pub use Rattle.demo_lines.specs.declared.line_refusal.LineRefusal.{LineRefusal}
 use Rattle.demo_lines.specs.declared.event.Event.{Event}
 use Rattle.demo_lines.specs.Known.{Reading, start_within, start}
 use Rattle.demo_lines.specs.Lines.{is_end}
@@ -29,12 +30,6 @@ cut_end part = if is_end part then part ∷ [] else []
 -- the lines of bytes: those that a line feed ends, and the end without one
 abbrev pub lines_of : List ℕ → List (List ℕ)
 lines_of bytes = whole_lines bytes ++ cut_end (last_part bytes)
-
--- a line, counted from 1, its fault, and the rule of the map that it breaks, 0 where it breaks none
-pub record LineRefusal : Type 0 where
-  pub line : ℕ
-  pub fault : ℕ
-  pub rule : ℕ
 
 -- the refusal of this line for this fault
 abbrev pub refusal : ℕ → LineFault → LineRefusal

@@ -1,6 +1,8 @@
 ghost use Rattle.std.specs.Prelude.{◌≡◌};
 ghost use Rattle.demo_lines.specs.declared.demo_stop.DemoStop.TheVariants.{NoMemory};
+ghost use Rattle.demo_lines.specs.Reads.{stop_at};
 
+use crate::line_refusal::LineRefusal;
 use std::alloc::AllocError;
 use thiserror::Error;
 
@@ -26,5 +28,14 @@ impl From<AllocError> for DemoStop {
 
     fn from(_error: AllocError) -> DemoStop {
         DemoStop::NoMemory
+    }
+}
+
+impl From<LineRefusal> for DemoStop {
+    ghost from_gives = { λ why stop. stop ≡ stop_at why };
+
+    fn from(why: LineRefusal) -> DemoStop {
+        let LineRefusal { line, fault, rule } = why;
+        DemoStop::Refused { line, fault, rule }
     }
 }

@@ -11,6 +11,7 @@ pub use laws::{
 };
 pub use line::Line;
 pub use line_fault::LineFault;
+pub use line_refusal::LineRefusal;
 pub use rest::{LONGEST_REST, RestBuf};
 pub use stage::Stage;
 pub use word::Word;
@@ -21,6 +22,7 @@ mod event;
 mod laws;
 mod line;
 mod line_fault;
+mod line_refusal;
 mod next_event;
 mod one_line;
 mod packet;

@@ -11,6 +11,7 @@ use crate::demo_stop::DemoStop;
 use crate::event::Event;
 use crate::line::{is_end, line_at};
 use crate::line_fault::LineFault;
+use crate::line_refusal::LineRefusal;
 use crate::reading::{Reading, event_of};
 use crate::stage::Stage;
 use edge_io::LONGEST;
@@ -20,11 +21,11 @@ use std::alloc::Global;
 fn refused(line: u64, why: LineFault) -> DemoStop
     ensures { result ≡ stop_at (refusal line why) }
 {
-    DemoStop::Refused {
+    DemoStop::from(LineRefusal {
         line,
         fault: why.number(),
         rule: why.rule(),
-    }
+    })
 }
 
 /// Takes one more line, and answers its event.

@@ -104,6 +104,15 @@ received-long arena frame state arrivals slots small =
     let none : IsCounted 0 (receiving_of state no_lists) = record { slots = slots; size = omega arith } in
     omega (arith, counted-through arena frame 0 (receiving_of state no_lists) arrivals (omega (arith, small.few)) small.ports none)
 
+-- the text of its refusals is so long, and that of its joins
+pub early-long : (arena : MapView) (frame : ℕ) (state : State) (arrivals : List Arrival) → length state.clients ≡ 64 → IsSmallFrame arrivals
+    → (length (text_of (map no_line (received arena frame state arrivals).lists.refused)) ≤ 17 * length arrivals)
+    × (length (text_of (map joined_line (received arena frame state arrivals).lists.joined)) ≤ 17 * length arrivals)
+unfolding lists_size
+early-long arena frame state arrivals slots small =
+    let long = received-long arena frame state arrivals slots small in
+    (omega (arith, long), omega (arith, long))
+
 -- a right journal has as many entries as moves were received
 journal-count : (arena : MapView) (r : Receiving) (journal : List Entry) → IsReception arena r → IsRightAfter arena r journal → length journal ≡ length r.lists.moves
 journal-count arena r journal is right =
@@ -137,12 +146,19 @@ kept-below p (r ∷ rs) below = by (p r) (filter p rs) (kept-below p rs below.1)
     by true l rest = (below.0, rest)
     by false l rest = rest
 
+-- there are no more live records than ids, and each player has an id
+pub live-within : (arena : MapView) (records : List (Option Rec)) → length records ≡ IDS → length (live_in records) ≤ IDS
+live-within arena records places = omega (arith, live-few records, places)
+
+pub players-below : (arena : MapView) (records : List (Option Rec)) → IsValidWorld arena records → AllByRecursion (λ r. r.id < IDS) (players_in records)
+players-below arena records valid = kept-below _ (live_in records) (live-below records (λ id r at. id-below r (valid.each id r at).is_record))
+
 -- the lines of the snapshots of at most 64 players
 snapshots-long : (arena : MapView) (frame : ℕ) (records : List (Option Rec)) → length records ≡ IDS → IsValidWorld arena records → length (text_of (to_lines frame records)) ≤ ROOM * 64
 snapshots-long arena frame records places valid =
     let entries : AreEntries records = λ id r at. record { is_record = (valid.each id r at).is_record; own_id = (valid.each id r at).own_id } in
-    let below : AllByRecursion (λ r. r.id < IDS) (players_in records) = kept-below _ (live_in records) (live-below records (λ id r at. id-below r (valid.each id r at).is_record)) in
-    let few : length (live_in records) ≤ IDS = omega (arith, live-few records, places) in
+    let below = players-below arena records valid in
+    let few = live-within arena records places in
     let count : length (players_in records) ≤ 64 = omega (arith, ap length (players_are_first records entries), few_first records 64) in
     omega (arith, to_lines-long frame (live_in records) (players_in records) few below, count)
 

@@ -14,7 +14,8 @@ use Rattle.demo_lines.specs.Machines.{run_of}
 use Rattle.demo_lines.specs.Known.{Reading, start, is_over}
 use Rattle.demo_lines.specs.Recording.{next, after_line, event_of, events_of_line, after, events_of}
 use Rattle.demo_lines.specs.Spelling.{frame_events, recording_events}
-use Rattle.demo_lines.specs.Bytes.{LineRefusal, refused_at, last_part, lines_of, fault}
+use Rattle.demo_lines.specs.declared.line_refusal.LineRefusal.{LineRefusal}
+use Rattle.demo_lines.specs.Bytes.{refused_at, last_part, lines_of, fault}
 use Rattle.demo_lines.proofs.Machines.{run_of-append}
 use Rattle.demo_lines.proofs.Ends.{after-over, events_of-over}
 use Rattle.demo_lines.proofs.Prefixes.{faultless_is_over}

@@ -38,3 +38,5 @@ pub mod FedBounded
 pub mod OneReply
 pub mod OneAnswer
 pub mod LastShown
+pub mod FedPackets
+pub mod ShortAnswers

@@ -11,7 +11,8 @@ use Rattle.packet_read.specs.Orders.{is_from, in_order, AreEachOnce}
 use Rattle.client_ports.specs.States.{State}
 use Rattle.plain_server.specs.RecordsById.{opening}
 use Rattle.plain_server.specs.Frames.{received_in, state_after, first_of, rest_of}
-use Rattle.demo_lines.specs.Bytes.{LineRefusal, fault, map_of}
+use Rattle.demo_lines.specs.declared.line_refusal.LineRefusal.{LineRefusal}
+use Rattle.demo_lines.specs.Bytes.{fault, map_of}
 use Rattle.out_text.specs.OutLines.{OutLine, FrameLine, FromLine, NoLine, JoinedLine, DidLine, ToLine, EndLine, text_of}
 use Rattle.out_text.specs.FrameLines.{lines_with}
 use Rattle.out_text.specs.Reading.{line_in}

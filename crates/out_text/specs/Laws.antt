@@ -12,7 +12,8 @@ use Rattle.client_ports.specs.Finishing.{is_leaver}
 use Rattle.client_ports.specs.Frames.{moves_by_packet}
 use Rattle.plain_server.specs.Frames.{received_in, moved_by, state_after, state_played, IsRightAfter, AreRight}
 use Rattle.plain_server.specs.Frames.{AreInOrder, state_after_tick}
-use Rattle.demo_lines.specs.Bytes.{LineRefusal, events, fault, map_of}
+use Rattle.demo_lines.specs.declared.line_refusal.LineRefusal.{LineRefusal}
+use Rattle.demo_lines.specs.Bytes.{events, fault, map_of}
 use Rattle.demo_lines.specs.Spelling.{IsRecording, recording_text, frame_events, recording_events}
 use Rattle.out_text.specs.Dids.{Did}
 use Rattle.out_text.specs.OutLines.{OutLine, FrameLine, DidLine, line_spelling}

@@ -34,6 +34,7 @@ pub mod Collecting
 pub mod Output
 pub mod Feeds
 pub mod Transcripts
+pub mod MatchLogs
 pub mod OneTaker
 pub mod ToLines
 pub mod PacketLines

@@ -5,7 +5,8 @@ use Rattle.arena_map.specs.Maps.{MapView}
 use Rattle.packet_read.specs.declared.arrival.Arrival.{Arrival}
 use Rattle.plain_server.specs.RecordsById.{opening}
 use Rattle.plain_server.specs.Frames.{AreRight, AreInOrder}
-use Rattle.demo_lines.specs.Bytes.{LineRefusal, fault, map_of}
+use Rattle.demo_lines.specs.declared.line_refusal.LineRefusal.{LineRefusal}
+use Rattle.demo_lines.specs.Bytes.{fault, map_of}
 use Rattle.out_text.specs.OutLines.{OutLine, EndLine, text_of}
 use Rattle.out_text.specs.FrameLines.{run_lines}
 use Rattle.out_text.specs.Journals.{dids}

@@ -5,9 +5,11 @@ use std::alloc::AllocGlobal;
 use std::sync::Wait;
 use std::thread::Threads;
 
+mod explained;
 mod feeders;
 mod hostile;
 mod hostile_frames;
+mod logs;
 mod made;
 mod resent;
 mod transcripts;

@@ -92,7 +92,7 @@ module _ {S : Type 0} (s : sources.Ghosts S) (old new : S) (t v : CheckerView) (
 -- ---- the lines after others of the frame
 
 -- these lines of a frame are those after some others, which its journal doesn't change
-abbrev Follow : FrameText → FrameText → CheckerView → List Arrival → List OutLine → Type 0
+abbrev pub Follow : FrameText → FrameText → CheckerView → List Arrival → List OutLine → Type 0
 Follow whole lines c arrivals front =
     (journal : List Entry) → whole c.map c.frames (received_in c.map c.frames c.state arrivals) journal
     ≡ front ++ lines c.map c.frames (received_in c.map c.frames c.state arrivals) journal

@@ -1,5 +1,5 @@
 -- The frames of a transcript that were read so far, each with the one right journal whose lines are there.
-use Rattle.std.proofs.Common.{◌≡◌, ℕ, true, append_assoc, zero, suc, ◌+◌, ◌*◌, ◌≤◌, List, [], ◌∷◌, ◌++◌, length, take, drop, IfSome, refl, sym, ap, ◌∙◌, subst, add-zero, append-nil, arith, length-append, take-append-drop}
+use Rattle.std.proofs.Common.{◌≡◌, ℕ, true, false, append_assoc, zero, suc, ◌+◌, ◌*◌, ◌≤◌, List, [], ◌∷◌, ◌++◌, length, take, drop, IfSome, refl, sym, ap, ◌∙◌, subst, add-zero, append-nil, arith, length-append, take-append-drop}
 use Rattle.std.specs.Prelude.{⊤}
 use Rattle.edge_io.specs.declared.source.Source as sources
 use Rattle.entity_recs.specs.declared.effect.Entry.{Entry}
@@ -27,7 +27,7 @@ use Rattle.transcript_check.proofs.Texts.{text_of-one, begins-after, begins-fron
 use Rattle.transcript_check.proofs.ReadingOn.{reads-none, reads-both, IsWithin, looked-first, looked-after}
 
 -- the moves of one frame more
-run_moves-push : (map : MapView) (frame : ℕ) (s : State) (frames : List (List Arrival)) (arrivals : List Arrival) (js : List (List Entry)) (j : List Entry) → length js ≡ length frames
+pub run_moves-push : (map : MapView) (frame : ℕ) (s : State) (frames : List (List Arrival)) (arrivals : List Arrival) (js : List (List Entry)) (j : List Entry) → length js ≡ length frames
     → run_moves map frame s (frames ++ arrivals ∷ []) (js ++ j ∷ [])
     ≡ run_moves map frame s frames js + length (received_in map (frame + length frames) (state_played map frame s frames js) arrivals).lists.moves
 run_moves-push map frame s [] arrivals [] j same =
@@ -57,7 +57,7 @@ pushed (suc n) (x ∷ ls) same =
     record { front = x ∷ rest.front; last = rest.last; is = ap (λ (ys : List (List Entry)). x ∷ ys) rest.is; same = ap suc rest.same }
 
 -- a count of few lines is their number
-pub counted-few : (n : ℕ) → n ≤ 2000 * MOST_FRAMES → count_after 0 n ≡ n
+pub counted-few : (n : ℕ) → n ≤ 2600 * MOST_FRAMES → count_after 0 n ≡ n
 counted-few zero few = refl
 counted-few (suc n) few = omega (arith, few)
 
@@ -368,9 +368,9 @@ module _ {S : Type 0} (s : sources.Ghosts S) (map : MapView) where
         (record { journals = so.journals; right = so.right; lines_are = refl }) one
 
     -- the whole output was read, and no more
-    pub output-looked : (new : S) (demo'' : InputView) → ReadsLines s now new c.input demo'' (EndLine c.frames ∷ [])
+    pub output-looked : (new : S) (demo'' : InputView) → ReadsLines s now new c.input demo'' (EndLine c.frames ∷ []) → demo''.held ≡ false
         → TakesOutput map frames (ahead_of s demo old) (ahead_of s demo'' new) (IsNeeded s old new demo demo'') (s.ended new ≡ true)
-    output-looked new demo'' reads =
+    output-looked new demo'' reads free =
         let lines = run_lines map 0 (opening map) frames so.journals in
         let count : c.frames ≡ length frames = (let f = so.frames_are in omega (arith, f)) in
         let all : ReadsLines s old new demo demo'' (lines ++ EndLine (length frames) ∷ []) =
@@ -379,7 +379,7 @@ module _ {S : Type 0} (s : sources.Ghosts S) (map : MapView) where
           lines = lines ++ EndLine (length frames) ∷ [];
           whole = record { journals = so.journals; right = so.right; lines_are = refl };
           read = all.consumed;
-          needed = (all.on.unread, all.on.before_end);
+          needed = record { unread = all.on.unread; before_end = all.on.before_end; free = free };
         }
 
     -- all frames were read, and the last line too
@@ -476,6 +476,6 @@ module _ {S : Type 0} (s : sources.Ghosts S) (map : MapView) (frames : List (Lis
     endless-looked one = end-looked s map frames old now demo c here new demo'' one
 
     -- where all is right
-    pub right-looked : ReadsLines s now new c.input demo'' (EndLine c.frames ∷ [])
+    pub right-looked : ReadsLines s now new c.input demo'' (EndLine c.frames ∷ []) → demo''.held ≡ false
         → TakesOutput map frames (ahead_of s demo old) (ahead_of s demo'' new) (IsNeeded s old new demo demo'') (s.ended new ≡ true)
-    right-looked reads = output-looked s map frames old now demo c here new demo'' reads
+    right-looked reads free = output-looked s map frames old now demo c here new demo'' reads free

@@ -2,6 +2,7 @@
 pub mod Texts
 pub mod Turns
 pub mod ReadingOn
+pub mod HeldLines
 pub mod InRange
 pub mod MovesRead
 pub mod Firsts
@@ -22,3 +23,8 @@ pub mod OneEnd
 pub mod OneJournal
 pub mod OneVerdict
 pub mod LineCounts
+pub mod FromLines
+pub mod PacketsRead
+pub mod FedFrames
+pub mod OneFeed
+pub mod FedRead

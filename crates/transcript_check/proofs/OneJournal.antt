@@ -43,7 +43,7 @@ same-entry place e d is also same =
     let dids : ◌≡◌ {A = Did} (did_of e) (did_of d) = cc in
     sym (entry-is place e is) ∙ ap (entry_at place) dids ∙ entry-is place d also
 
-text-next : (l : OutLine) (more : List OutLine) (after : List ℕ) → text_of (l ∷ more) ++ after ≡ line_spelling l ++ 10 ∷ (text_of more ++ after)
+pub text-next : (l : OutLine) (more : List OutLine) (after : List ℕ) → text_of (l ∷ more) ++ after ≡ line_spelling l ++ 10 ∷ (text_of more ++ after)
 text-next l more after = append_assoc (printed_line l) (text_of more) after ∙ append_assoc (line_spelling l) (10 ∷ []) (text_of more ++ after)
 
 -- two journals of as many entries, the lines of which are there
@@ -82,7 +82,7 @@ module _ (map_view : MapView) (is_map : IsMap map_view) where
       let shown = to_lines frame (moved_by map_view r journal).records in
       ap text_of (append_assoc head dids shown) ∙ text_of-append head (dids ++ shown) ∙ ap (λ t. text_of head ++ t) (text_of-append dids shown)
 
-  same-frame : (frame : ℕ) (r : Receiving) (j k : List Entry) (bytes : List ℕ) → HasNumbersApart r.lists.moves → AreReported 0 j → AreReported 0 k → IsRightAfter map_view r j → IsRightAfter map_view r k
+  pub same-frame : (frame : ℕ) (r : Receiving) (j k : List Entry) (bytes : List ℕ) → HasNumbersApart r.lists.moves → AreReported 0 j → AreReported 0 k → IsRightAfter map_view r j → IsRightAfter map_view r k
       → BeginsWith bytes (text_of (lines_with map_view frame r j)) → BeginsWith bytes (text_of (lines_with map_view frame r k)) → j ≡ k
   same-frame frame r j k bytes apart are also right other one two =
       let head = text_of (head_lines frame r.lists) in

@@ -146,11 +146,15 @@ module _ {S : Type 0} (s : sources.Ghosts S) where
     consumed = read.gives.consumed;
     one_line = read.gives.one_line;
     fits = (let fits = read.gives.fits in omega (arith, fits));
-    ends = inl (inr refl, (read.on.unread, read.on.before_end));
+    ends = inl (inr refl, record { unread = read.on.unread; before_end = read.on.before_end; free = read.free });
   }
 
   needed-after : (a b c : S) (d e f : InputView) → GoesOn s a b d e → IsNeeded s b c e f → IsNeeded s a c d f
-  needed-after a b c d e f one more = (HasNotReadAhead-trans s.last a b c d.demo.pending e.demo.pending f.demo.pending one.unread more.0, more.1 ∙ one.before_end)
+  needed-after a b c d e f one more = record {
+    unread = HasNotReadAhead-trans s.last a b c d.demo.pending e.demo.pending f.demo.pending one.unread more.unread;
+    before_end = more.before_end ∙ one.before_end;
+    free = more.free;
+  }
 
   -- one line at most, where these are wanted
   pub looked-none : (a c : S) (d f : InputView) (W : List OutLine → Type 0) (more : List OutLine) → W more → ReadsOneAtMost s a c d f → ReadsBeginning s W a c d f

@@ -1,5 +1,5 @@
 -- A recording that is read to its end, event after event.
-use Rattle.std.proofs.Common.{◌≡◌, ℕ, ◌≤◌, ◌⊎◌, Bool, true, false, List, [], ◌∷◌, ◌++◌, inl, inr, Some, None, IfSome, IsSome, refl, sym, ap, ◌∙◌, subst}
+use Rattle.std.proofs.Common.{◌≡◌, ℕ, ◌≤◌, ◌⊎◌, Bool, true, false, List, [], ◌∷◌, ◌++◌, inl, inr, Some, IfSome, IsSome, refl, sym, ap, ◌∙◌, subst}
 use Rattle.std.proofs.KnownBytes.{Consumes-nil, prepend_known-nil}
 use Rattle.std.specs.Io.KnownBytes.{Consumes, IsAtEnd}
 use Rattle.edge_io.specs.declared.source.Source as sources
@@ -12,8 +12,8 @@ use Rattle.demo_lines.specs.declared.event.Event.TheVariants.{Frame, From, End}
 use Rattle.demo_lines.specs.declared.demo_stop.DemoStop.{DemoStop}
 use Rattle.demo_lines.specs.declared.demo_stop.DemoStop.TheVariants as demo_stop
 use Rattle.demo_lines.specs.Known.{Reading, start_within, is_map_whole, is_over}
-use Rattle.demo_lines.specs.Bytes.{LineRefusal, fault_within}
-use Rattle.demo_lines.specs.Readings.{IsReading}
+use Rattle.demo_lines.specs.declared.line_refusal.LineRefusal.{LineRefusal}
+use Rattle.demo_lines.specs.Bytes.{fault_within}
 use Rattle.demo_lines.specs.Reads.{DemoReaderView, fresh_within, IsOpen, Reads, TakesCutEnd, EndsAt, KeepsMap, stage_after}
 use Rattle.demo_lines.specs.Outcomes.{GivesEvent, IsStoppedBy}
 use Rattle.demo_lines.proofs.Machines.{run_of-append}

@@ -64,7 +64,7 @@ missed-other (Some bytes) (Some left) given l gives other = λ begins.
 
 -- ---- fronts
 
-append-same : (front xs ys : List ℕ) → front ++ xs ≡ front ++ ys → xs ≡ ys
+pub append-same : (front xs ys : List ℕ) → front ++ xs ≡ front ++ ys → xs ≡ ys
 append-same [] xs ys same = same
 append-same (b ∷ front) xs ys same = append-same front xs ys (cc)
 

@@ -13,7 +13,8 @@ use Rattle.demo_lines.specs.declared.demo_stop.DemoStop.{DemoStop}
 use Rattle.demo_lines.specs.declared.demo_stop.DemoStop.TheVariants.{Refused, ReadFault, NoMemory}
 use Rattle.demo_lines.specs.declared.stage.Stage.TheVariants.{Ended}
 use Rattle.demo_lines.specs.Known.{start_within, is_over}
-use Rattle.demo_lines.specs.Bytes.{LineRefusal, fault_within, map_within}
+use Rattle.demo_lines.specs.declared.line_refusal.LineRefusal.{LineRefusal}
+use Rattle.demo_lines.specs.Bytes.{fault_within, map_within}
 use Rattle.demo_lines.specs.Recording.{after}
 use Rattle.demo_lines.specs.Reads.{IsTextOf}
 use Rattle.demo_lines.specs.Consumed.{ReadsToRefusal}

@@ -1,4 +1,5 @@
 use crate::comparison::Comparison;
+use crate::packets::Packets;
 use arena_map::ArenaMap;
 use client_ports::Received;
 use demo_lines::{DemoReader, DemoStop};
@@ -8,6 +9,8 @@ use packet_read::{Arrival, MOST_ARRIVALS};
 use server_state::State;
 use std::alloc::{AllocError, Global};
 use std::marker::Model;
+
+mod fed;
 
 /// A plain server between two frames, and what it compares the lines of a transcript with.
 #[derive(Drop)]
@@ -42,7 +45,7 @@ impl Model for Checker {
 }
 
 impl Checker {
-    ghost use Rattle.std.specs.Prelude.{◌≡◌, ◌*◌, ◌<◌, ◌≤◌, [], ◌∷◌, length, IfOk, IfErr};
+    ghost use Rattle.std.specs.Prelude.{◌≡◌, ◌*◌, ◌<◌, ◌≤◌, true, false, [], ◌∷◌, length, IfOk, IfErr};
     ghost use Rattle.std.specs.Bool.{OnTrue, OnFalse};
     ghost use Rattle.arena_map.specs.declared.limits.TheConstants.{MOST_FRAMES};
     ghost use Rattle.plain_server.specs.Frames.{received_in, IsRightAfter};
@@ -54,6 +57,7 @@ impl Checker {
     ghost use Rattle.client_ports.specs.declared.received.TheConstants.{MOST_FRAME_MOVES};
     ghost use Rattle.transcript_check.specs.Reading.{MayRead, ReadsLines, ReadsOneAtMost, ReadsBeginning, Misses, ReadFails};
     ghost use Rattle.transcript_check.specs.Checkers.{new_checker, with_input, IsChecker};
+    ghost use Rattle.transcript_check.specs.Packets.{ArePackets, HasNoPackets, ReadsPackets};
     ghost use Rattle.transcript_check.specs.Pieces.{MissesFrame, BeginsFrame, TakesFrame, answers_with};
 
     /// A server in this arena, before the first frame, and what follows the recording that the reader has read to its
@@ -62,6 +66,7 @@ impl Checker {
         ensures checker { IfOk result (λ checker. checker ≡ new_checker map checker.input) }
         ensures demo { IfOk result (λ checker. checker.input.demo ≡ reader) }
         ensures count { IfOk result (λ checker. checker.input.count ≡ 0) }
+        ensures held { IfOk result (λ checker. checker.input.held ≡ false) }
         ensures is { IfOk result (λ checker. IsChecker checker.map checker.state) }
     {
         let comparison = Comparison::new(alloc, map, reader)?;
@@ -108,9 +113,30 @@ impl Checker {
         ensures looked { IfOk result (λ is. OnFalse is
             (ReadsOneAtMost S.Source source.old source.new self.old.input self.new.input)) }
         ensures err { IfErr result (ReadFails S.Source source.old source.new self.old.input) }
+        ensures held { IfOk result (λ is. OnTrue is (self.new.input.held ≡ false)) }
         ensures server { self.new ≡ with_input self.old self.new.input }
     {
         self.comparison.lines.expect(line, source)
+    }
+
+    /// Reads the packets of a frame off its `from` lines, up to the first other line, which is held. It is false where there
+    /// are none that a frame may have.
+    fn read_packets<S: Source>(
+        &mut self,
+        packets: &mut Packets,
+        source: &mut S,
+    ) -> Result<bool, DemoStop>
+        requires may { MayRead S.Source self.old.input source.old }
+        ensures ok { IfOk result (λ is. OnTrue is
+            (ReadsPackets S.Source source.old source.new self.old.input self.new.input packets.new)) }
+        ensures missed { IfOk result (λ is. OnFalse is
+            (Misses S.Source source.old source.new self.old.input HasNoPackets)) }
+        ensures looked { IfOk result (λ is. OnFalse is
+            (ReadsBeginning S.Source ArePackets source.old source.new self.old.input self.new.input)) }
+        ensures err { IfErr result (ReadFails S.Source source.old source.new self.old.input) }
+        ensures server { self.new ≡ with_input self.old self.new.input }
+    {
+        self.comparison.lines.read_packets(packets, source)
     }
 
     /// Whether the next lines are those of a frame with these packets after its first. It takes no memory.
@@ -186,6 +212,7 @@ impl Checker {
         ensures looked { IfOk result (λ is. OnFalse is
             (ReadsOneAtMost S.Source source.old source.new self.old.input self.new.input)) }
         ensures err { IfErr result (ReadFails S.Source source.old source.new self.old.input) }
+        ensures held { IfOk result (λ is. OnTrue is (self.new.input.held ≡ false)) }
         ensures server { self.new ≡ with_input self.old self.new.input }
     {
         self.expect(&OutLine::End(self.frames()), source)

@@ -1,4 +1,4 @@
-ghost use Rattle.std.specs.Prelude.{◌≡◌, ◌<◌, ◌≤◌, ◌^◌, true, length, map, IfOk, IfErr};
+ghost use Rattle.std.specs.Prelude.{◌≡◌, ◌<◌, ◌≤◌, ◌^◌, true, false, length, map, IfOk, IfErr};
 ghost use Rattle.std.specs.List.{AllByRecursion};
 ghost use Rattle.arena_map.specs.declared.limits.TheConstants.{MOST_FRAMES};
 ghost use Rattle.demo_lines.specs.Reads.{fresh_within};
@@ -24,6 +24,7 @@ fn compare<S: Source>(
 ) -> Result<Verdict, DemoStop>
     requires new { checker.old ≡ new_checker checker.old.map checker.old.input }
     requires first { checker.old.input.count ≡ 0 }
+    requires free { checker.old.input.held ≡ false }
     requires is { IsChecker checker.old.map checker.old.state }
     requires few { length frames.now ≤ MOST_FRAMES }
     requires short { AllByRecursion IsShort (map (λ arrivals. arrivals.items) frames.now) }

@@ -1,5 +1,5 @@
 ghost use Rattle.arena_actions.specs.MapActions.{map_in};
-ghost use Rattle.std.specs.Prelude.{◌≡◌, All, map, IfOk, IfErr};
+ghost use Rattle.std.specs.Prelude.{◌≡◌, false, All, map, IfOk, IfErr};
 ghost use Rattle.std.specs.List.{AllByRecursion};
 ghost use Rattle.std.specs.Bool.{OnTrue, OnFalse};
 ghost use Rattle.entity_recs.specs.Commands.{command_of};
@@ -69,6 +69,7 @@ impl Comparison {
         ensures map { IfOk result (λ c. map_in c.mover.action ≡ map) }
         ensures demo { IfOk result (λ c. c.lines.input.demo ≡ reader) }
         ensures count { IfOk result (λ c. c.lines.input.count ≡ 0) }
+        ensures held { IfOk result (λ c. c.lines.input.held ≡ false) }
     {
         let others = OtherList::new(alloc)?;
         Ok(Comparison {

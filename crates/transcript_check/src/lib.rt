@@ -1,6 +1,7 @@
 //! Checks the output of a recording: whether it is what a plain server writes with the journals that it spells.
 #![tactic(auto)]
 
+pub use auditing::audit;
 pub use checking::check;
 pub use laws::{
     outputs_are_right, recordings_end_once, right_ones_are_outputs, right_ones_count_their_lines,
@@ -8,6 +9,7 @@ pub use laws::{
 };
 pub use verdict::Verdict;
 
+mod auditing;
 mod checker;
 mod checking;
 mod comparison;
@@ -16,6 +18,7 @@ mod laws;
 mod lines;
 mod mover;
 mod other_list;
+mod packets;
 mod pending;
 mod recorded;
 mod verdict;

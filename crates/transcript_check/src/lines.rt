@@ -1,4 +1,4 @@
-ghost use Rattle.std.specs.Prelude.{◌≡◌, [], ◌∷◌, map, Some, IfOk, IfErr};
+ghost use Rattle.std.specs.Prelude.{◌≡◌, false, [], ◌∷◌, map, Some, IfOk, IfErr};
 ghost use Rattle.std.specs.Option.{option_map};
 ghost use Rattle.std.specs.Bool.{OnTrue, OnFalse};
 ghost use Rattle.out_text.specs.Dids.{Did};
@@ -16,6 +16,7 @@ use out_text::{OutLine, Printed, print_line, read_line};
 use snapshot_write::ReplyBuf;
 use std::alloc::{AllocError, Global};
 
+mod packets;
 mod replies;
 
 /// Whose move a line reports, and its number.
@@ -63,6 +64,7 @@ fn expect_printed<S: Source>(
         (λ bytes. BeginsWith bytes (printed_line (line_of line.now)) → ⊥))) }
     ensures looked { IfOk result (λ is. OnFalse is (ReadsOneAtMost S.Source source.old source.new input.old input.new)) }
     ensures err { IfErr result (ReadFails S.Source source.old source.new input.old) }
+    ensures held { IfOk result (λ is. OnTrue is (input.new.held ≡ false)) }
 {
     wanted.clear();
     print_line(line, wanted);
@@ -75,6 +77,7 @@ impl Lines {
     pub fn new(alloc: Global, reader: DemoReader) -> Result<Lines, AllocError>
         ensures demo { IfOk result (λ l. l.input.demo ≡ reader) }
         ensures count { IfOk result (λ l. l.input.count ≡ 0) }
+        ensures held { IfOk result (λ l. l.input.held ≡ false) }
     {
         Ok(Lines {
             input: Input::new(alloc, reader)?,
@@ -106,6 +109,7 @@ impl Lines {
         ensures looked { IfOk result (λ is. OnFalse is
             (ReadsOneAtMost S.Source source.old source.new self.old.input self.new.input)) }
         ensures err { IfErr result (ReadFails S.Source source.old source.new self.old.input) }
+        ensures held { IfOk result (λ is. OnTrue is (self.new.input.held ≡ false)) }
     {
         expect_printed(&mut self.input, &mut self.wanted, line, source)
     }

@@ -6,6 +6,7 @@ ghost use Rattle.arena_engine.specs.Planned.{IsPlanned};
 use crate::game::is_end;
 use crate::report::Report;
 use crate::status::Status;
+use crate::stop::Stop;
 use arena_map::ArenaMap;
 use bot_ways::{PlanStop, plan_way, write_least, write_plan};
 use demo_lines::{DemoReader, DemoStop};
@@ -75,11 +76,7 @@ pub fn plan_recording<S: Source, K: Sink>(
 {
     let map = match read_map(alloc, source) {
         Ok(map) => map,
-        Err(DemoStop::Refused { line, fault, rule }) => {
-            return Report::of_refusal(line, fault, rule, None, JournalList::new(alloc));
-        }
-        Err(DemoStop::ReadFault) => return Report::of_status_alone(alloc, Status::ReadFault),
-        Err(DemoStop::NoMemory) => return Report::of_status_alone(alloc, Status::NoMemory),
+        Err(stop) => return Report::of_stop(Stop::from(stop), None, JournalList::new(alloc)),
     };
     match write_ways(alloc, &map, target, sink) {
         Ok(Ways::Found) => Report::of_status_alone(alloc, Status::Done),

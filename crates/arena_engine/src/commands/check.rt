@@ -1,19 +1,13 @@
-ghost use Rattle.std.specs.Prelude.{◌≡◌, ◌≤◌, ◌⊎◌, [], IfOk, IfErr, None};
-ghost use Rattle.std.specs.Io.KnownBytes.{Appends};
-ghost use Rattle.edge_io.specs.Writes.{AppendsPart};
+ghost use Rattle.std.specs.Prelude.{◌≡◌, IfOk, IfErr, None};
 ghost use Rattle.transcript_check.specs.Verdicts.{Judges, StopsChecking};
-ghost use Rattle.arena_engine.specs.declared.summary.TheConstants.{MOST_SUMMARY_BYTES};
 ghost use Rattle.arena_engine.specs.Checked.{IsChecked};
-ghost use Rattle.arena_engine.specs.Endings.{Counts, Ends};
-ghost use Rattle.arena_engine.specs.Making.{IsBare};
-ghost use Rattle.arena_engine.specs.Summaries.{right_text};
+ghost use Rattle.arena_engine.specs.Endings.{Ends};
 
+use crate::commands::judging::report_found;
 use crate::report::Report;
 use crate::status::Status;
-use crate::summary::push_right;
 use demo_lines::{DemoReader, DemoStop};
-use edge_io::{LineBuf, Sink, Source, write_whole};
-use move_journal::JournalList;
+use edge_io::{LineBuf, Sink, Source};
 use std::alloc::Global;
 use transcript_check::{Verdict, check};
 
@@ -29,31 +23,6 @@ fn verdict_of<S: Source>(alloc: Global, source: &mut S) -> Result<Verdict, DemoS
     check(alloc, reader, source)
 }
 
-/// Writes the line of a right transcript, whose buffer is empty.
-fn write_right<K: Sink>(
-    alloc: Global,
-    frames: u32,
-    moves: u64,
-    line: &mut LineBuf,
-    sink: &mut K,
-) -> Report
-    requires { line.old ≡ [] }
-    ensures status { (result.status ≡ 0) ⊎ (result.status ≡ 4) }
-    ensures done { result.status ≡ 0 → Appends (K.taken sink.old) (K.taken sink.new) (right_text frames moves) }
-    ensures cut { result.status ≡ 4 → AppendsPart (K.taken sink.old) (K.taken sink.new) (right_text frames moves) }
-    ensures counts { Counts 4 (K.faults sink.old) (K.faults sink.new) result.status }
-    ensures sure { MOST_SUMMARY_BYTES ≤ K.room sink.old → result.status ≡ 4 → ⊥ }
-    ensures bare { IsBare result }
-    ensures order { result.order ≡ None }
-    ensures all { result.all ≡ [] }
-{
-    push_right(frames, moves, line);
-    match write_whole(sink, line.as_slice()) {
-        Ok(()) => Report::of_status_alone(alloc, Status::Done),
-        Err(_) => Report::of_status_alone(alloc, Status::WriteFault),
-    }
-}
-
 /// Reads a recording, compares what follows it with its output, and writes what was found, where that is right. The
 /// report has how that ended.
 pub fn check_transcript<S: Source, K: Sink>(alloc: Global, source: &mut S, sink: &mut K) -> Report
@@ -65,13 +34,6 @@ pub fn check_transcript<S: Source, K: Sink>(alloc: Global, source: &mut S, sink:
     let Ok(mut line) = LineBuf::new(alloc) else {
         return Report::of_status_alone(alloc, Status::NoMemory);
     };
-    match verdict_of(alloc, source) {
-        Ok(Verdict::Right { frames, moves }) => write_right(alloc, frames, moves, &mut line, sink),
-        Ok(Verdict::Wrong { line }) => Report::of_wrong_line(alloc, line),
-        Err(DemoStop::Refused { line, fault, rule }) => {
-            Report::of_refusal(line, fault, rule, None, JournalList::new(alloc))
-        }
-        Err(DemoStop::ReadFault) => Report::of_status_alone(alloc, Status::ReadFault),
-        Err(DemoStop::NoMemory) => Report::of_status_alone(alloc, Status::NoMemory),
-    }
+    let found = verdict_of(alloc, source);
+    report_found(alloc, found, &mut line, sink)
 }

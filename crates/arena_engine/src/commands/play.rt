@@ -8,7 +8,6 @@ use crate::feeding::Feeding;
 use crate::played::Played;
 use crate::report::Report;
 use crate::status::Status;
-use crate::stop::Stop;
 use edge_io::{Sink, Source};
 use move_journal::JournalList;
 use playback::Host;
@@ -26,12 +25,7 @@ fn report_of(alloc: Global, played: Played) -> Report
     let Played { ended, last, order } = played;
     match ended {
         Ok(()) => Report::of_status(Status::Done, last, all).with_order(order),
-        Err(Stop::Refused { line, fault, rule }) => {
-            Report::of_refusal(line, fault, rule, last, all).with_order(order)
-        }
-        Err(Stop::ReadFault) => Report::of_status(Status::ReadFault, last, all).with_order(order),
-        Err(Stop::WriteFault) => Report::of_status(Status::WriteFault, last, all).with_order(order),
-        Err(Stop::NoMemory) => Report::of_status(Status::NoMemory, last, all).with_order(order),
+        Err(stop) => Report::of_stop(stop, last, all).with_order(order),
     }
 }
 

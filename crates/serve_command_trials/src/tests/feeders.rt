@@ -7,7 +7,7 @@ pub const ONE_JOIN_FED: &str =
     "frame 0\nfrom 7 0101\njoined 7 0\nto 0 01000000000000000000000000000018000000000000000000000000000000000000000000000000000000\nend 1\n";
 
 /// What it writes of two joins for one slot, where the packet of the one arrives first, and where that of the other does.
-const FIRST_OR_SECOND: [&str; 2] = [
+pub const FIRST_OR_SECOND: [&str; 2] = [
     "frame 0\nfrom 7 0101\nfrom 8 0101\nno 1 Crowded\njoined 7 0\nto 0 01000000000000000000000000000018000000000000000000000000000000000000000000000000000000\nend 1\n",
     "frame 0\nfrom 8 0101\nfrom 7 0101\nno 1 Crowded\njoined 8 0\nto 0 01000000000000000000000000000018000000000000000000000000000000000000000000000000000000\nend 1\n",
 ];

@@ -49,7 +49,22 @@ const FAULTY: &str = "arena -131072 -131072 0 131072 131072 65536\nfrob\n";
 const MANY_BYTES: usize = 2_000_000;
 
 /// How many of them a read gives and a write takes.
-const MANY: usize = 65_536;
+pub const MANY: usize = 65_536;
+
+/// Judges what a source has by this word, and compares the status, the line and what is written.
+pub fn expect_judged(
+    rt: &(impl AllocGlobal + Abort + Threads + Wait + Sync),
+    word: &str,
+    source: &mut MemSource,
+    wanted: (u8, u64),
+    written: &str,
+) -> Result<(), AllocError> {
+    let mut sink = MemSink::new(rt.alloc(), 1_000, 100)?;
+    let report = report_of(rt, &[word], source, &mut sink);
+    assert_eq!(rt; (report.status, report.line), wanted);
+    assert_eq!(rt; sink.bytes(), written.as_bytes());
+    Ok(())
+}
 
 /// Checks what a source has, and compares the status, the line and what is written.
 fn expect_verdict(
@@ -58,11 +73,7 @@ fn expect_verdict(
     wanted: (u8, u64),
     written: &str,
 ) -> Result<(), AllocError> {
-    let mut sink = MemSink::new(rt.alloc(), 1_000, 100)?;
-    let report = report_of(rt, &["check"], source, &mut sink);
-    assert_eq!(rt; (report.status, report.line), wanted);
-    assert_eq!(rt; sink.bytes(), written.as_bytes());
-    Ok(())
+    expect_judged(rt, "check", source, wanted, written)
 }
 
 /// Checks an input, of which a read gives 100 bytes at the most.
@@ -147,7 +158,7 @@ fn exchanged_lines_and_a_line_alone_are_wrong(rt: HostRuntime) -> Result<(), Fai
 }
 
 /// What these words write, of this input; the status is 0.
-fn written_of(
+pub fn written_of(
     rt: &(impl AllocGlobal + Abort + Threads + Wait + Sync),
     words: &[&str],
     input: &[u8],

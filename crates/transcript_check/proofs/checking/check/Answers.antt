@@ -8,6 +8,7 @@ use Rattle.demo_lines.specs.Reads.{DemoReaderView, map_taken}
 use Rattle.demo_lines.specs.Rest.{HasRest}
 use Rattle.transcript_check.specs.Checkers.{CheckerView, new_checker}
 use Rattle.transcript_check.specs.Verdicts.{IsShort, Judges}
+use Rattle.transcript_check.proofs.HeldLines.{free-ahead}
 use Rattle.transcript_check.proofs.NextFrames.{if_ok-both}
 use Rattle.transcript_check.proofs.Judged.{read-few, read-short, read-judged, stops-comparing}
 use Rattle.transcript_check.proofs.checking.check.Goals as goal
@@ -36,8 +37,9 @@ compare-requires-clause-may g c =
     let read = c.in_ok-recorded.ensures.ok in
     record {
       over = ap (λ (demo : DemoReaderView). demo.reading.stage) demo_is ∙ read.ended;
-      rest = subst (λ (demo : DemoReaderView). HasRest demo (ahead demo.pending (g.S.Source.left c.read_recording.new.source))) (sym demo_is)
-          (record { no_stop = read.may.no_stop; at_end = read.may.at_end });
+      rest = subst (HasRest c.in_ok-checker.checker.input.demo) (sym (free-ahead c.in_ok-checker.checker.input.held _ _ _ c.in_ok-checker.ensures.held))
+          (subst (λ (demo : DemoReaderView). HasRest demo (ahead demo.pending (g.S.Source.left c.read_recording.new.source))) (sym demo_is)
+          (record { no_stop = read.may.no_stop; at_end = read.may.at_end }));
     }
 
 pub returns-clause-ok : goal.returns-clause-ok
@@ -48,7 +50,7 @@ returns-clause-ok g c =
     let map_is = sym c.take_map.ensures.map ∙ c.unwrap-map.ensures ∙ ap Some (sym (ap (λ (u : CheckerView). u.map) c.in_ok-checker.ensures.checker)) in
     if_ok-both c.compare.result _ _ (Judges g.S.Source c.args.reader.reading.limit c.args.source.now c.compare.new.source) c.compare.ensures.ok c.compare.ensures.looked
     (λ verdict missed looks. read-judged g.S.Source c.args.reader.reading.limit c.args.source.now c.read_recording.new.source demo c.in_ok-recorded.recorded c.in_ok-recorded.ensures.ok
-    c.compare.new.source checker.input c.compare.new.checker.input checker.map verdict demo_is map_is (rw c.frames.ensures at (rw c.end_line-before.ensures at missed)) (rw c.frames.ensures at looks))
+    c.compare.new.source checker.input c.compare.new.checker.input checker.map demo_is c.in_ok-checker.ensures.held map_is verdict (rw c.frames.ensures at (rw c.end_line-before.ensures at missed)) (rw c.frames.ensures at looks))
 
 pub returns-clause-err : goal.returns-clause-err
 returns-clause-err g c =

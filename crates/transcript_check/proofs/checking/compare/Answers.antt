@@ -84,4 +84,4 @@ returns-clause-looked g c =
     let frames = map items c.args.frames.now in
     right-looked g.S.Source c.args.checker.now.map frames (take n frames) (take-all items c.args.frames.now n (let past = c.loop-arrivals-test.false in omega (arith, past))) c.args.source.now
     c.loop-arrivals.source c.expect_end.new.source c.args.checker.now.input c.expect_end.new.self.input c.loop-arrivals.checker c.loop-arrivals.invariant
-    (rw c.if-not-branch-2.false at c.in_ok-expect_end.ensures.ok)
+    (rw c.if-not-branch-2.false at c.in_ok-expect_end.ensures.ok) (rw c.if-not-branch-2.false at c.in_ok-expect_end.ensures.held)

@@ -1,14 +1,12 @@
-use Rattle.arena_engine.proofs.Judging.{right-checked, wrong-checked}
+use Rattle.arena_engine.proofs.Judging.{transcript-checked, check-ends}
 use Rattle.arena_engine.proofs.commands.check.check_transcript.Goals as goal
 
-pub returns-in-Ok-Right-clause-checked : goal.returns-in-Ok-Right-clause-checked
-returns-in-Ok-Right-clause-checked g c =
-    let wrote = c.write_right.ensures in
-    right-checked g.S.Source g.K.Sink c.args.source.now c.verdict_of.new.source c.args.sink.now c.write_right.result c.write_right.new.sink c.in-Ok-Right.frames c.in-Ok-Right.moves
-    (rw c.in-Ok-Right.field-0-is at c.in-Ok-Right.ensures.ok) wrote.status wrote.done wrote.cut wrote.counts wrote.sure wrote.bare.last wrote.all
+pub returns-clause-checked : goal.returns-clause-checked
+returns-clause-checked g c =
+    transcript-checked g.S.Source g.K.Sink c.args.source.now c.verdict_of-found.new.source c.args.sink.now c.report_found.new.sink c.report_found.result c.verdict_of-found.result
+    c.report_found.ensures.found c.verdict_of-found.ensures.ok c.verdict_of-found.ensures.err
 
-pub returns-in-Ok-Wrong-clause-checked : goal.returns-in-Ok-Wrong-clause-checked
-returns-in-Ok-Wrong-clause-checked g c =
-    let said = c.of_wrong_line.ensures in
-    wrong-checked g.S.Source g.K.Sink c.args.source.now c.verdict_of.new.source c.args.sink.now c.of_wrong_line.result c.in-Ok-Wrong.line
-    (rw c.in-Ok-Wrong.field-0-is at c.in-Ok-Wrong.ensures.ok) said.status said.line said.last said.all
+pub returns-clause-ends : goal.returns-clause-ends
+returns-clause-ends g c =
+    check-ends g.S.Source g.K.Sink c.args.source.now c.verdict_of-found.new.source c.args.sink.now c.report_found.new.sink c.report_found.result c.verdict_of-found.result
+    c.report_found.ensures.found c.verdict_of-found.ensures.ok c.verdict_of-found.ensures.err

@@ -1,4 +1,4 @@
-use Rattle.std.proofs.Common.{◌≡◌, List, [], refl, sym, subst, arith}
+use Rattle.std.proofs.Common.{◌≡◌, List, refl, sym, subst, arith}
 use Rattle.world_tree.specs.Live.{live_in}
 use Rattle.out_text.specs.FrameLines.{to_line}
 use Rattle.out_text.specs.OutLines.{OutLine, text_of}
