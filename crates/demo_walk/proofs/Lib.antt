@@ -4,3 +4,7 @@ pub mod Steps
 pub mod Texts
 pub mod FramesKept
 pub mod Pieces
+pub mod Sites
+pub mod Joining
+pub mod Moving
+pub mod Accepted

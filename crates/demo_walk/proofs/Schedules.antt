@@ -50,7 +50,7 @@ times-least places players frame h =
 pub enough-places : (places players frame : ℕ) → players ≤ places → joined_by places players frame ≡ players
 enough-places places players frame h = enough places players frame (times-least places players frame h)
 
-first-places : (places players : ℕ) → places ≤ players → joined_by places players 0 ≡ places
+pub first-places : (places players : ℕ) → places ≤ players → joined_by places players 0 ≡ places
 first-places places players h =
     let e : places * (0 + 64) / 64 ≡ places = omega arith in
     ap (min players) e ∙ least places players h

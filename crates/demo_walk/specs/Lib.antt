@@ -7,3 +7,4 @@ pub mod Places
 pub mod WalkedFrames
 pub mod Remaining
 pub mod Laws
+pub mod Accepting

@@ -1,3 +1,4 @@
+ghost use Rattle.demo_walk.specs.Accepting.{NothingIsRefused};
 ghost use Rattle.demo_walk.specs.Laws.{WalksReadBack, EnoughPlacesAreAsMade, JoinsAreKnown, PacketsAreRead};
 
 /// Each recording, of 1 to 64 players and 1 to 100,000 frames, has no fault, and is read as its map and the frames that
@@ -21,4 +22,10 @@ pub fn joins_are_known()
 /// The packets are read as joins, and as moves with the numbers that the words give.
 pub fn packets_are_read()
     ensures { PacketsAreRead }
+{}
+
+/// In frame 0 every join and every move is accepted, in a valid world where nobody is joined, wherever its lifts are; and
+/// where the map has places for all players, so is every move of each later frame.
+pub fn nothing_is_refused()
+    ensures { NothingIsRefused }
 {}
