@@ -76,7 +76,7 @@ moves-more a b seq at next from is =
 
 -- ---- the whole recording
 
-lines-both : (ls ms : List Line) → unlines (map line_text (ls ++ ms)) ≡ unlines (map line_text ls) ++ unlines (map line_text ms)
+pub lines-both : (ls ms : List Line) → unlines (map line_text (ls ++ ms)) ≡ unlines (map line_text ls) ++ unlines (map line_text ms)
 lines-both ls ms =
     ap unlines (map-append line_text ls ms) ∙ flat_map-append (λ line. line ++ 10 ∷ []) (map line_text ls) (map line_text ms)
 
@@ -93,7 +93,7 @@ text-both ls ms =
     ap unlines (map-append map_line_text ls ms) ∙ flat_map-append (λ line. line ++ 10 ∷ []) (map map_line_text ls) (map map_line_text ms)
 
 -- the text of the lines of a map
-map-parts : (m : MapView) → unlines (map line_text (arena_line m.bounds ∷ map OfMap (added_lines m))) ≡ map_text m
+pub map-parts : (m : MapView) → unlines (map line_text (arena_line m.bounds ∷ map OfMap (added_lines m))) ≡ map_text m
 map-parts m =
     ap (λ ls. unlines (line_text (arena_line m.bounds) ∷ ls)) (of_map (added_lines m))
     ∙ ap (λ t. (line_text (arena_line m.bounds) ++ 10 ∷ []) ++ t)

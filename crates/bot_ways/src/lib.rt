@@ -7,8 +7,10 @@ pub use laws::{
     moves_are_known, plan_texts_are_bounded, plans_are_recordings, ways_are_unique,
 };
 pub use lists::{LeastList, MOST_WAYPOINTS, WayList};
+pub use map_text::spell_map;
 pub use plan::{Plan, plan_way};
 pub use plan_stop::PlanStop;
+pub use plan_text::PlanText;
 pub use writing::{MOST_PLAN_BYTES, write_least, write_plan};
 
 mod certificate;

@@ -1,4 +1,4 @@
-ghost use Rattle.std.specs.Prelude.{◌≡◌, ◌<◌, ◌++◌, length, slice_get, Some, OnOk};
+ghost use Rattle.std.specs.Prelude.{◌≡◌, ◌<◌, ◌++◌, length, slice_get, Some, IfOk, OnOk};
 ghost use Rattle.entity_recs.specs.Records.{IsRecord};
 ghost use Rattle.arena_map.specs.MapLines.{IsWithinLimits};
 ghost use Rattle.arena_map.specs.Maps as maps;
@@ -10,7 +10,7 @@ use arena_geo::Aabb;
 use arena_map::{ArenaMap, DEFAULT_DEPTH, MapLine};
 use box_trace::WALLS;
 use entity_recs::{Rec, body_box};
-use std::alloc::AllocError;
+use std::alloc::{AllocError, Global};
 
 /// The blocks of a map in line order.
 fn blocks(map: &ArenaMap) -> &[Aabb]
@@ -134,4 +134,13 @@ pub fn push_map(text: &mut PlanText, map: &ArenaMap) -> Result<(), AllocError>
     push_blocks(text, map)?;
     push_spawns(text, map)?;
     push_things(text, map)
+}
+
+/// The lines of a map, each with its line feed, in the order of [`push_map`].
+pub fn spell_map(alloc: Global, map: &ArenaMap) -> Result<PlanText, AllocError>
+    ensures { IfOk result (λ text. text ≡ texts.map_text map.now) }
+{
+    let mut text = PlanText::new(alloc)?;
+    push_map(&mut text, map)?;
+    Ok(text)
 }

@@ -57,7 +57,7 @@ join-arrival port few = record {
   fits = packets_have_room.lowest (join_from port) (omega arith) (omega arith);
 }
 
-move-arrival : (seq port word : ℕ) → port ≤ 64 → IsArrival (move_from seq port word)
+pub move-arrival : (seq port word : ℕ) → port ≤ 64 → IsArrival (move_from seq port word)
 move-arrival seq port word few = record {
   port = omega arith;
   bytes = move-bytes (move_of seq word) (omega arith) (omega (arith, button-few (eqb (word / 2 ^ 32 % 16) 0)));

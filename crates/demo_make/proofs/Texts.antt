@@ -29,7 +29,7 @@ frames-lines (f ∷ frames) =
     ∙ ap (λ ls. (lines.Frame ∷ ls) ++ map line_of (flat_map frame_events frames)) (arrivals-lines f)
     ∙ ap (λ ls. frame_lines f ++ ls) (frames-lines frames)
 
-recording-events_text : (frames : List (List Arrival))
+pub recording-events_text : (frames : List (List Arrival))
     → unlines (map line_text (flat_map frame_lines frames ++ lines.End ∷ [])) ≡ events_text (recording_events frames)
 recording-events_text frames =
     sym (events_text-lines (recording_events frames)

@@ -13,7 +13,7 @@ use rand_xoshiro::rand_core::SeedableRng;
 use rand_xoshiro::rand_core::utils::NextWord;
 
 /// The words of a seed, from the first on.
-fn words_of(seed: u64) -> SplitMix64
+pub fn words_of(seed: u64) -> SplitMix64
     ensures { result ≡ seed }
 {
     SplitMix64::from_seed(seed.to_le_bytes())

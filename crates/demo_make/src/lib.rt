@@ -3,7 +3,7 @@
 
 pub use arena::generated_map;
 pub use generated_event::GeneratedEvent;
-pub use generator::Generator;
+pub use generator::{Generator, words_of};
 pub use laws::{
     all_is_accepted, commands_arrive_once, frames_are_known, generated_recordings_read_back,
     generated_texts_are_bounded, map_is_known, packets_are_read, resent_recordings_read_back,
@@ -11,7 +11,9 @@ pub use laws::{
 };
 pub use make_stop::MakeStop;
 pub use map_lines::{MAP_LINES, map_line};
-pub use writing::{make, resend};
+pub use moves::drawn_move;
+pub use text::{LONGEST_EVENT, push_event};
+pub use writing::{make, make_room, resend};
 
 mod arena;
 mod generated_event;

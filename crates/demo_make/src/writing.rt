@@ -15,7 +15,7 @@ use edge_io::{Failed, LineBuf, ROOM, Sink, write_whole};
 use std::alloc::Global;
 
 /// Writes the text that was gathered, where it has no room for one more line.
-fn make_room<K: Sink>(sink: &mut K, text: &mut LineBuf) -> Result<(), Failed>
+pub fn make_room<K: Sink>(sink: &mut K, text: &mut LineBuf) -> Result<(), Failed>
     ensures free { OnOk result (length text.new + LONGEST_EVENT ≤ ROOM) }
     ensures ok { OnOk result (PassesFront (K.taken sink.old) (K.taken sink.new) text.old text.new) }
     ensures err { OnErr result (AppendsPart (K.taken sink.old) (K.taken sink.new) text.old) }
