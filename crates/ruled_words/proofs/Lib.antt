@@ -1,4 +1,5 @@
 -- Lemmas on the rule of the table, and on the steps of a hand.
+pub mod EitherBits
 pub mod Views
 pub mod Idle
 pub mod Takings

@@ -12,12 +12,12 @@ use Rattle.core_steps.specs.Steps.{loading}
 use Rattle.core_steps.specs.Machine.{Next, ReadList}
 use Rattle.core_steps.proofs.Players.{without_other}
 use Rattle.core_seats.specs.Nexts.{the_next}
-use Rattle.core_seats.proofs.ThingPlaces.{either_bits}
 use Rattle.ruled_words.specs.Hands.{IsPlain}
 use Rattle.ruled_words.specs.Loads.{after_loads, record_loaded_next}
 use Rattle.ruled_words.specs.Passes.{PassView, next_of_pass, pass_after, list_read_next}
 use Rattle.ruled_words.specs.Straight.{in_view, HasKept}
 use Rattle.ruled_words.specs.Visits.{plan_left, under_until}
+use Rattle.ruled_words.proofs.EitherBits.{either_bits}
 use Rattle.ruled_words.proofs.LoadedWords.{plain_after, plain_next, kept_in_view, by_six, visiting_same}
 
 -- what is loaded under a node depends on the command and the own record alone

@@ -18,13 +18,13 @@ use Rattle.core_seats.specs.declared.refusals.Refusals.{Refusals}
 use Rattle.core_seats.specs.Refusals.{AreRefusals}
 use Rattle.core_seats.specs.Going.{word_left}
 use Rattle.core_seats.specs.Nexts.{the_next}
-use Rattle.core_seats.proofs.ThingPlaces.{either_bits}
 use Rattle.ruled_words.specs.Hands.{IsPlain}
 use Rattle.ruled_words.specs.Passes.{PassView, next_of_pass, pass_after, node_given_next, word_after}
 use Rattle.ruled_words.specs.Straight.{AreHeldFor, in_view, in_view_with, HasKept, nodes_read}
 use Rattle.ruled_words.specs.declared.held.Held.{Held}
 use Rattle.ruled_words.specs.Tries.{tried_until}
 use Rattle.ruled_words.specs.Visits.{plan_left, read_until, under_until, visited_until}
+use Rattle.ruled_words.proofs.EitherBits.{either_bits}
 use Rattle.ruled_words.proofs.BitWalks.{bits_in, bits_none, bits_low}
 use Rattle.ruled_words.proofs.LoadedWords.{plain_is, plain_after, plain_next, visiting_same}
 use Rattle.ruled_words.proofs.TriedTakes.{leaf_list, leaf_list_first, leaf_there}
