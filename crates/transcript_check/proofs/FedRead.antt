@@ -23,7 +23,6 @@ use Rattle.out_text.specs.MatchLogs.{may_have_more, EndsPackets, IsLog, HasRight
 use Rattle.out_text.specs.OutLines.{OutLine, FrameLine, EndLine, line_spelling, printed_line, text_of}
 use Rattle.out_text.specs.Transcripts.{BeginsWith, run_moves}
 use Rattle.out_text.proofs.FedRuns.{fed_lines-push}
-use Rattle.out_text.proofs.Lengths.{frame_line-long, end_line-long}
 use Rattle.out_text.proofs.Runs.{state_played-push, right-push, text_of-append}
 use Rattle.transcript_check.specs.Audits.{OpensFrame, IsRightLog, IsWrongLogAt, IsLogVerdict, AreOfLog, TakesLog}
 use Rattle.transcript_check.specs.Checkers.{CheckerView, new_checker, with_input, IsChecker}
@@ -34,29 +33,13 @@ use Rattle.transcript_check.specs.declared.verdict.Verdict.TheVariants.{Right, W
 use Rattle.transcript_check.proofs.FedFrames.{more-after}
 use Rattle.transcript_check.proofs.FramesRead.{run_moves-push, counted-few}
 use Rattle.transcript_check.proofs.HeldLines.{BeginsWithLine}
+use Rattle.transcript_check.proofs.LogsThere.{line-first, end-is-no-frame, end-short, frame-short, last_of_log, log-there}
 use Rattle.transcript_check.proofs.OneFeed.{AreThere, first-there, GoesOnWith, goes-on-with}
 use Rattle.transcript_check.proofs.OneJournal.{text-next}
 use Rattle.transcript_check.proofs.ReadingOn.{IsWithin, reads-none, reads-both, read-wanted, looked-first, looked-after}
-use Rattle.transcript_check.proofs.Texts.{one_line, same_line, append-same, text_of-one, if_some-read, if_some-over, if_some-all}
+use Rattle.transcript_check.proofs.Texts.{one_line, same_line, append-same, if_some-read, if_some-over, if_some-all}
 
 -- ---- a wrong log
-
-line-first : (l : OutLine) (after : List ℕ) → printed_line l ++ after ≡ line_spelling l ++ 10 ∷ after
-line-first l after = append_assoc (line_spelling l) (10 ∷ []) after
-
-abbrev first_byte : List ℕ → ℕ
-first_byte [] = 0
-first_byte (b ∷ bytes) = b
-
--- the last line opens no frame
-end-is-no-frame : (n k : ℕ) → line_spelling (EndLine n) ≡ line_spelling (FrameLine k) → ⊥
-end-is-no-frame n k same = let first : 101 ≡ 102 = ap first_byte same in omega (arith, first)
-
-end-short : (n : ℕ) → n ≤ 100000 → length (line_spelling (EndLine n)) ≤ 16
-end-short n few = let long = end_line-long n few in let own = length-append (line_spelling (EndLine n)) (10 ∷ []) in omega (arith, long, own)
-
-frame-short : (n : ℕ) → n < 100000 → length (line_spelling (FrameLine n)) ≤ 16
-frame-short n few = let long = frame_line-long n few in let own = length-append (line_spelling (FrameLine n)) (10 ∷ []) in omega (arith, long, own)
 
 -- no next frame is there, nor the last line after these frames
 pub record HasNoNext (arena : MapView) (feeds : List (List Arrival)) (js : List (List Entry)) (left : List ℕ) : Type 0 where
@@ -89,26 +72,10 @@ module _ (arena : MapView) (feeds : List (List Arrival)) (js : List (List Entry)
 
   module _ (t : IsLog arena bytes) where
     abbrev end : List ℕ
-    end = printed_line (EndLine (length t.feeds)) ++ t.begins.after
+    end = last_of_log arena bytes t
 
     theirs : AreThere arena 0 (opening arena) t.feeds t.journals bytes end
-    theirs =
-        let lines = fed_lines arena 0 (opening arena) t.feeds t.journals in
-        let last = EndLine (length t.feeds) in
-        record {
-          each = t.recorded.each;
-          right = t.right;
-          is = t.begins.is ∙ ap (λ x. x ++ t.begins.after) (text_of-append lines (last ∷ [])) ∙ append_assoc (text_of lines) (text_of (last ∷ [])) t.begins.after
-              ∙ ap (λ x. text_of lines ++ (x ++ t.begins.after)) (text_of-one last);
-          whole = λ more. record {
-            line = line_spelling last;
-            after = t.begins.after;
-            is = line-first last t.begins.after;
-            one_line = one_line last;
-            fits = (let short = end-short (length t.feeds) (let few = t.recorded.few in omega (arith, few)) in omega (arith, short));
-            other = refl;
-          };
-        }
+    theirs = log-there arena bytes t
 
     -- it has as many frames
     as-many : length feeds ≡ length t.feeds → ⊥

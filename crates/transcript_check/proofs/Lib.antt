@@ -27,4 +27,8 @@ pub mod FromLines
 pub mod PacketsRead
 pub mod FedFrames
 pub mod OneFeed
+pub mod LogsThere
 pub mod FedRead
+pub mod OneLog
+pub mod FedCounts
+pub mod LogOutputs

@@ -38,17 +38,17 @@ weight b = cond b 1 0
 
 module _ (word : List ℕ) where
   -- the line begins with the word
-  abbrev begins : OutLine → Bool
+  abbrev pub begins : OutLine → Bool
   begins l = starts_with nat_eq (line_spelling l) word
 
   -- how many of these lines do
-  abbrev count_in : List OutLine → ℕ
+  abbrev pub count_in : List OutLine → ℕ
   count_in lines = count_by begins lines
 
-  count-append : (xs ys : List OutLine) → count_in (xs ++ ys) ≡ count_in xs + count_in ys
+  pub count-append : (xs ys : List OutLine) → count_in (xs ++ ys) ≡ count_in xs + count_in ys
   count-append xs ys = sum_by-append (λ (l : OutLine). cond (begins l) 1 0) xs ys
 
-  count-cons : (l : OutLine) (ls : List OutLine) → count_in (l ∷ ls) ≡ cond (begins l) 1 0 + count_in ls
+  pub count-cons : (l : OutLine) (ls : List OutLine) → count_in (l ∷ ls) ≡ cond (begins l) 1 0 + count_in ls
   count-cons l ls = sum_by-cons (λ (k : OutLine). cond (begins k) 1 0) l ls
 
   count-spelled : (lines : List OutLine) → count_by (λ line. starts_with nat_eq line word) (map_list line_spelling lines) ≡ count_in lines
@@ -58,10 +58,10 @@ module _ (word : List ℕ) where
       more ∙ ap (λ n. cond (begins l) 1 0 + n) (count-spelled lines) ∙ sym (count-cons l lines)
 
   -- of the lines of a text as many do
-  count-text : (lines : List OutLine) → lines_beginning word (text_of lines) ≡ count_in lines
+  pub count-text : (lines : List OutLine) → lines_beginning word (text_of lines) ≡ count_in lines
   count-text lines = ap (count_by (λ (line : List ℕ). starts_with nat_eq line word)) (whole_lines-text lines) ∙ count-spelled lines
 
-  count-none : {X : Type 0} (f : X → OutLine) (xs : List X) → ((x : X) → begins (f x) ≡ false) → count_in (map_list f xs) ≡ 0
+  pub count-none : {X : Type 0} (f : X → OutLine) (xs : List X) → ((x : X) → begins (f x) ≡ false) → count_in (map_list f xs) ≡ 0
   count-none f [] none = refl
   count-none f (x ∷ xs) none =
       let here : ◌≡◌ {A = ℕ} (cond (begins (f x)) 1 0) 0 = ap (λ (b : Bool). weight b) (none x) in
@@ -92,7 +92,7 @@ module _ (word : List ℕ) where
       let one = count-append a b in
       omega (arith, first, three, two, one)
 
-dids-frame : (frame : ℕ) (lists : Lists) (journal : List Entry) (records : List (Option Rec)) → count_in (codes "did ") (frame_lines frame lists journal records) ≡ length journal
+pub dids-frame : (frame : ℕ) (lists : Lists) (journal : List Entry) (records : List (Option Rec)) → count_in (codes "did ") (frame_lines frame lists journal records) ≡ length journal
 dids-frame frame lists journal records =
     let word = codes "did " in
     let parts = count-frame word frame lists journal records in
@@ -103,7 +103,7 @@ dids-frame frame lists journal records =
     let shown = count-none word (to_line frame (live_in records)) (players_in records) (λ r. refl) in
     omega (arith, parts, head, refused, joined, done, shown)
 
-frames-frame : (frame : ℕ) (lists : Lists) (journal : List Entry) (records : List (Option Rec)) → count_in (codes "frame ") (frame_lines frame lists journal records) ≡ 1
+pub frames-frame : (frame : ℕ) (lists : Lists) (journal : List Entry) (records : List (Option Rec)) → count_in (codes "frame ") (frame_lines frame lists journal records) ≡ 1
 frames-frame frame lists journal records =
     let word = codes "frame " in
     let parts = count-frame word frame lists journal records in
@@ -115,7 +115,7 @@ frames-frame frame lists journal records =
     omega (arith, parts, head, refused, joined, done, shown)
 
 -- a right journal has as many entries as moves were received
-journal-count : (map : MapView) (r : Receiving) (journal : List Entry) → IsReception map r → IsRightAfter map r journal → length journal ≡ length r.lists.moves
+pub journal-count : (map : MapView) (r : Receiving) (journal : List Entry) → IsReception map r → IsRightAfter map r journal → length journal ≡ length r.lists.moves
 journal-count map r journal is right =
     let whole = merges_have_whole_histories r.lists.moves journal is.apart right.merge in
     let history = history_of r.lists.moves journal in

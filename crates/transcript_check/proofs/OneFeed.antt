@@ -58,7 +58,7 @@ frame-ends n more after below = record {
 
 module _ (arena : MapView) (is_map : IsMap arena) where
   -- what follows the answers of a frame, where others follow it or none
-  rest-ends : (frame : ℕ) (s : State) (here : List OutLine) (feeds : List (List Arrival)) (js : List (List Entry)) (after : List ℕ) → frame + length feeds ≤ 100000
+  pub rest-ends : (frame : ℕ) (s : State) (here : List OutLine) (feeds : List (List Arrival)) (js : List (List Entry)) (after : List ℕ) → frame + length feeds ≤ 100000
       → (may_have_more (here ++ fed_lines arena frame s feeds js) ≡ true → EndsPackets after) → may_have_more here ≡ true → EndsPackets (text_of (fed_lines arena frame s feeds js) ++ after)
   rest-ends frame s here [] js after few whole more = whole (ap may_have_more (append-nil here) ∙ more)
   rest-ends frame s here (x ∷ feeds) js after few whole more =

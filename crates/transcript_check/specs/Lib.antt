@@ -16,3 +16,4 @@ pub mod Verdicts
 pub mod Audits
 pub mod Recorded
 pub mod Laws
+pub mod LogLaws
