@@ -14,14 +14,16 @@ use Rattle.arena_engine.specs.Reports.{last_in}
 use Rattle.edge_io.specs.declared.source.Source as sources
 use Rattle.edge_io.specs.declared.sink.Sink as sinks
 use Rattle.arena_engine.specs.declared.command.Command.{Command}
-use Rattle.arena_engine.specs.declared.command.Command.TheVariants.{Play, Feed, Make, Resend, Match, Bots, Check}
+use Rattle.arena_engine.specs.declared.command.Command.TheVariants.{Play, Feed, Make, Resend, Match, Bots, Check, Audit, Help, Version}
 use Rattle.arena_engine.specs.Making.{IsMade, IsResent, IsMatched}
 use Rattle.arena_engine.specs.declared.feeding.Feeding.TheVariants.{Recorded, Threaded}
 use Rattle.arena_engine.specs.Feedings.{no_last}
 use Rattle.arena_engine.specs.Texts.{Texts, play_texts, feed_texts}
 use Rattle.arena_engine.specs.Played.{IsPlayedWith}
 use Rattle.arena_engine.specs.Planned.{IsPlanned}
-use Rattle.arena_engine.specs.Checked.{IsChecked}
+use Rattle.arena_engine.specs.Checked.{IsChecked, IsAudited}
+use Rattle.arena_engine.specs.declared.commands.explain.TheConstants.{HELP, VERSION}
+use Rattle.arena_engine.specs.Explained.{IsExplained}
 use Rattle.arena_engine.specs.Served.{Unread, IsServed}
 use Rattle.arena_engine.proofs.FedTexts.{HoldAtFirst, hold_at_first}
 use Rattle.arena_engine.proofs.Exits.{memory_at_first}
@@ -65,3 +67,9 @@ module _ {S K : Type 0} (s : sources.Ghosts S) (k : sinks.Ghosts K) (source sour
       let is : IsPlanned s k target source source' sink sink' r = search (rules, same, five, last, all) in is
   not_served Check =
       let is : IsChecked s k source source' sink sink' r = search (rules, same, five, last, all) in is
+  not_served Audit =
+      let is : IsAudited s k source source' sink sink' r = search (rules, same, five, last, all) in is
+  not_served Help =
+      let is : Unread source source' (IsExplained k HELP.now sink sink' r) = search (rules, unread, same, five, place, last, all) in is
+  not_served Version =
+      let is : Unread source source' (IsExplained k VERSION.now sink sink' r) = search (rules, unread, same, five, place, last, all) in is

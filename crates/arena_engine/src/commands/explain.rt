@@ -46,9 +46,10 @@ Read on in README.md; docs/FORMATS.md has the formats and the faults.
 /// What `version` writes: the program's version, and the kit that it was proved with.
 pub const VERSION: &[u8] = b"arena_cli 1.0.0, proved with rattle-kit-13f logic dac8208d650f15bf\n";
 
-/// Writes a text that explains the program.
+/// Writes a text that explains the program. It takes no memory.
 pub fn explain<K: Sink>(alloc: Global, text: &[u8], sink: &mut K) -> Report
     ensures explained { IsExplained K.Sink text.now sink.old sink.new result }
+    ensures memory { result.status ≡ 5 → ⊥ }
     ensures counts { Counts 4 (K.faults sink.old) (K.faults sink.new) result.status }
     ensures orderless { result.order ≡ None }
 {
