@@ -10,7 +10,6 @@ import unittest
 
 from calls import Calls, content, run
 from common import PROGRAM, TOOLS
-from program import has_audit
 
 ODD = ["a\tb\nc.demo", "\udcff '\"{}$(x).demo", "-n.demo", "\x1b[31mred.demo"]
 # What stands in for `ssh`: it runs the command on this machine, in a folder of its own.
@@ -108,10 +107,6 @@ class Many(Calls):
         self.assertIn("failed: alone.demo: there is no output beside it", out)
 
     def test_logs(self):
-        if not has_audit():
-            _, error, _ = self.call("many", self.recordings, "--logs", status=2)
-            self.assertIn(b"has no command `audit`", error)
-            self.skipTest("the program has no command `audit`")
         recording = content("packet-faults.demo")
         fed = run(["feed", "2"], recording)[0]
         head = recording.split(b"\nframe")[0] + b"\nend\n"
