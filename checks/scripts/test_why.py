@@ -65,7 +65,8 @@ class Recordings(Calls):
 
     def test_words(self):
         self.assertEqual(self.call("why", "--words", "play", "1", status=0)[0], b"the program takes these words\n")
-        self.assertIn(b"play N", self.call("why", "--words", "play", "17", status=1)[0])
+        out = self.call("why", "--words", "play", "17", status=1)[0]
+        self.assertTrue(b"\n  play N: " in out and b"\n  help, version: " in out and b"`" not in out, out)
         for words in ([], ["--log"], ["--sing"], ["a", "b", "c"], [self.path("none")], [self.folder]):
             self.call("why", *words, status=2)
 
