@@ -6,7 +6,8 @@ It stands alone, since it is copied to other machines. MODE is `play` (NAME is a
 workers), `pairs` (NAME is a recording, and beside it is its output) or `logs` (NAME is a log, or beside it is the
 map of which it is one). A file NAME of the current folder is taken before the one in FOLDER. Nothing is written to a
 file: the output goes from the program into `check` or `audit` as it comes. The programs that it runs end with it,
-however it ends; where a signal asks it to end, this is what came of the recording. The status is 0 where the output is right, and 1 where something else came of it.
+however it ends; where a signal asks it to end, that is what came of the recording. The status is 0 where the output
+is right, and 1 where something else came of it.
 """
 import ctypes
 import gzip
