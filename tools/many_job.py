@@ -6,7 +6,8 @@ It stands alone, since it is copied to other machines. MODE is `play` (NAME is a
 workers), `pairs` (NAME is a recording, and beside it is its output) or `logs` (NAME is a log, or beside it is the
 map of which it is one). A file NAME of the current folder is taken before the one in FOLDER. Nothing is written to a
 file: the output goes from the program into `check` or `audit` as it comes. The programs that it runs end with it,
-however it ends. The status is 0 where the output is right, and 1 where something else came of it.
+however it ends; where a signal asks it to end, that is what came of the recording. The status is 0 where the output
+is right, and 1 where something else came of it.
 """
 import ctypes
 import gzip
@@ -234,15 +235,33 @@ def judged(mode, path, workers, recording):
     return pair(path, recording) if mode == "pairs" else log(path, recording)
 
 
+def line_of(name, found):
+    return json.dumps({"name": name, **found}) + "\n"
+
+
+def say_when_stopped(name):
+    """Has SIGTERM end this process with its line printed, so that who reads the results knows why there is no other."""
+
+    def stop(number, _):
+        try:
+            os.write(1, line_of(name, {"end": "failed", "said": f"signal {number} stopped its judging"}).encode("ascii"))
+        finally:
+            os._exit(1)
+
+    signal.signal(signal.SIGTERM, stop)
+
+
 def main():
     mode, path, workers, name, folder = sys.argv[1:]
+    say_when_stopped(name)
     die_with(signal.SIGTERM, os.getppid())
     place = name if os.path.exists(name) else os.path.join(folder, name)
     try:
         found = judged(mode, path, workers, place)
     except READING as why:
         found = {"end": "failed", "said": getattr(why, "strerror", None) or str(why)}
-    print(json.dumps({"name": name, **found}), flush=True)
+    signal.signal(signal.SIGTERM, signal.SIG_IGN)
+    print(line_of(name, found), end="", flush=True)
     return 0 if found["end"] == "right" else 1
 
 

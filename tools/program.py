@@ -44,11 +44,6 @@ def lacking(path=PROGRAM):
     return None
 
 
-def has_audit():
-    """Whether the program has the command `audit`."""
-    return run(["audit"])[2] != 2
-
-
 def begin(text, needs=PROGRAM, wrong=lambda words: None):
     """Prints the script's text where that is asked for, and ends it for wrong words and where the program isn't built.
 

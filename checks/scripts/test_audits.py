@@ -6,7 +6,6 @@ import unittest
 
 from calls import SECONDS, content, run
 from common import CHECKS, PROGRAM, script
-from program import has_audit
 
 audits = script(CHECKS, "audits")
 MAP = b"arena -65536 -65536 0 65536 65536 65536\nspawn 0 0 6144\nend\n"
@@ -41,15 +40,14 @@ BY_HAND = [
 ]
 
 
-
 class Audits(unittest.TestCase):
     def test_logs_by_hand(self):
         judge = audits.Judge()
         for text, line in BY_HAND:
             frames = text.count(b"\nend 1\n") if text.startswith(b"frame") else 0
             right = b"right frames %d moves 0\n" % frames, b"", 0
-            found = [judge.verdict(MAP + text)] + ([run(["audit"], MAP + text)] if has_audit() else [])
-            self.assertEqual(set(found), {audits.wrong(line) if line else right}, text[:99])
+            found = {judge.verdict(MAP + text), run(["audit"], MAP + text)}
+            self.assertEqual(found, {audits.wrong(line) if line else right}, text[:99])
 
     def test_maps(self):
         judge = audits.Judge()
@@ -65,8 +63,8 @@ class Audits(unittest.TestCase):
         ):
             if b"%d" in wanted[1]:
                 wanted = wanted[0], wanted[1] % (data.split(b"\n").index(b"frame") + 1), wanted[2]
-            found = [judge.verdict(data)] + ([run(["audit"], data)] if has_audit() else [])
-            self.assertEqual(set(found), {wanted}, data[:99])
+            found = {judge.verdict(data), run(["audit"], data)}
+            self.assertEqual(found, {wanted}, data[:99])
 
     def test_moves_of_a_player_out_of_order(self):
         """Two moves of one player change places, with what each then comes to: no order as sent gives that."""
@@ -79,9 +77,6 @@ class Audits(unittest.TestCase):
     def test_a_few_changed_logs(self):
         words = [sys.executable, os.path.join(CHECKS, "audits"), "20", "3"]
         done = subprocess.run(words, capture_output=True, timeout=SECONDS, env={**os.environ, "ARENA_CLI": PROGRAM})
-        if not has_audit():
-            self.assertEqual(done.returncode, 2)
-            self.skipTest("the program has no command `audit`")
         self.assertEqual(done.returncode, 0, (done.stdout, done.stderr))
         self.assertTrue(done.stdout.endswith(b" 20 changes, 0 differences\n"), done.stdout)
 

@@ -10,7 +10,6 @@ import unittest
 
 from calls import Calls, content, run
 from common import PROGRAM, TOOLS
-from program import has_audit
 
 ODD = ["a\tb\nc.demo", "\udcff '\"{}$(x).demo", "-n.demo", "\x1b[31mred.demo"]
 # What stands in for `ssh`: it runs the command on this machine, in a folder of its own.
@@ -73,6 +72,40 @@ class Many(Calls):
         wanted = {"dangling.demo": "failed", "folder.demo": "failed", "cut.demo.gz": "failed", "wide.demo": "refused"}
         self.assertEqual(self.ends(found), wanted)
 
+    def test_results_that_never_come(self):
+        """What came in place of a result is said: how parallel ended, what it wrote, and which signal ended a job."""
+        self.put("a.demo", content("duel.demo"))
+        for ends, said in (("exit 0", "with status 0"), ("exit 2", "with status 2"), ("kill -9 $$", "by signal 9")):
+            out, _, error = self.many(status=1, env=self.instead_of_parallel(ends))
+            self.assertIn(f"failed: a.demo: it wasn't judged to its end; parallel ended {said}\n", out)
+            self.assertEqual(error, b"")
+        _, _, error = self.many(status=1, env=self.instead_of_parallel("printf 'odd \\033 line\\n'"))
+        self.assertEqual(error, b"many: parallel wrote what is no result: odd \\x1b line\\n\n")
+
+    def test_a_job_that_is_stopped(self):
+        """A job that a signal ends, and not `many`, is a result."""
+        self.put("a.demo", run(["make", "1", "64", "1900"])[0])
+        marked = self.path("marked_program")
+        shutil.copy(PROGRAM, marked)
+        words = [os.path.join(TOOLS, "many"), self.recordings]
+        environment = {**os.environ, "ARENA_CLI": marked}
+        script = subprocess.Popen(words, env=environment, stdout=subprocess.PIPE, stderr=subprocess.PIPE)
+        self.wait_for(lambda: self.running(marked), "a program runs")
+        os.kill(self.parent_of(self.running(marked)[0]), signal.SIGTERM)
+        out, error = script.communicate(timeout=60)
+        self.assertEqual((script.returncode, error), (1, b""))
+        self.assertIn(b"failed: a.demo: signal 15 stopped its judging\n", out)
+        self.wait_for(lambda: not self.running(marked), "no program is left")
+
+    def instead_of_parallel(self, script):
+        """A search path whose `parallel` ends otherwise than it should."""
+        bins = self.path("bins")
+        os.makedirs(bins, exist_ok=True)
+        with open(os.path.join(bins, "parallel"), "w") as file:
+            file.write(f'#!/bin/sh\n[ "$1" = --version ] && exec echo GNU parallel 1\n{script}\n')
+        os.chmod(file.name, 0o755)
+        return {"PATH": f"{bins}:{os.environ['PATH']}"}
+
     def test_wrong_words(self):
         empty = self.path("empty")
         os.mkdir(empty)
@@ -108,10 +141,6 @@ class Many(Calls):
         self.assertIn("failed: alone.demo: there is no output beside it", out)
 
     def test_logs(self):
-        if not has_audit():
-            _, error, _ = self.call("many", self.recordings, "--logs", status=2)
-            self.assertIn(b"has no command `audit`", error)
-            self.skipTest("the program has no command `audit`")
         recording = content("packet-faults.demo")
         fed = run(["feed", "2"], recording)[0]
         head = recording.split(b"\nframe")[0] + b"\nend\n"
@@ -170,18 +199,19 @@ class Many(Calls):
             script = subprocess.Popen(
                 [os.path.join(TOOLS, "many"), self.recordings, "-j", "2"], env=environment, stdout=subprocess.PIPE, stderr=subprocess.PIPE
             )
-            self.wait_for(lambda: self.running(marked) >= 2, "a program runs")
+            self.wait_for(lambda: len(self.running(marked)) >= 2, "a program runs")
             script.send_signal(sent)
             out, error = script.communicate(timeout=60)
             self.assertEqual(script.returncode, -sent if sent == signal.SIGKILL else 128 + sent, error)
-            self.wait_for(lambda: self.running(marked) == 0, f"no program is left after {sent!r}")
+            self.wait_for(lambda: not self.running(marked), f"no program is left after {sent!r}")
             self.assertEqual(os.listdir(room), [])
             if sent != signal.SIGKILL:
                 self.assertIn(b"many: stopped after 0 of 4", error)
 
     @staticmethod
     def running(path):
-        count = 0
+        """The numbers of the processes whose program this is."""
+        found = []
         for name in os.listdir("/proc"):
             if name.isdecimal():
                 try:
@@ -189,8 +219,14 @@ class Many(Calls):
                         words = file.read().split(b"\0")
                 except OSError:
                     continue
-                count += words[0] == os.fsencode(path)
-        return count
+                if words[0] == os.fsencode(path):
+                    found.append(int(name))
+        return found
+
+    @staticmethod
+    def parent_of(process):
+        with open(f"/proc/{process}/stat") as file:
+            return int(file.read().rsplit(")", 1)[1].split()[1])
 
     def wait_for(self, holds, what):
         until = time.monotonic() + 60

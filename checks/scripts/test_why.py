@@ -4,7 +4,6 @@ import random
 import unittest
 
 from calls import Calls, content, example, run
-from program import has_audit
 
 MAP = "arena -65536 -65536 0 65536 65536 65536\nspawn 0 0 6144\n"
 LIFT = "lift 20000 20000 0 30000 30000 2000 9000 100\n"
@@ -66,7 +65,8 @@ class Recordings(Calls):
 
     def test_words(self):
         self.assertEqual(self.call("why", "--words", "play", "1", status=0)[0], b"the program takes these words\n")
-        self.assertIn(b"play N", self.call("why", "--words", "play", "17", status=1)[0])
+        out = self.call("why", "--words", "play", "17", status=1)[0]
+        self.assertTrue(b"\n  play N: " in out and b"\n  help, version: " in out and b"`" not in out, out)
         for words in ([], ["--log"], ["--sing"], ["a", "b", "c"], [self.path("none")], [self.folder]):
             self.call("why", *words, status=2)
 
@@ -148,10 +148,6 @@ class Outputs(Calls):
 class Logs(Calls):
     def setUp(self):
         super().setUp()
-        if not has_audit():
-            said = self.call("why", "--log", example("duel.out"), status=1)[0]
-            self.assertIn(b"has no command `audit`", said)
-            self.skipTest("the program has no command `audit`")
         recording = run(["make", "5", "6", "4"])[0]
         self.lines = (recording.split(b"\nframe")[0] + b"\nend\n" + run(["feed", "2"], recording)[0]).split(b"\n")
 

@@ -163,7 +163,7 @@ class Live:
             while True:
                 await match.run(self._stop, min(words.frames or MOST_FRAMES, words.match))
                 match.saved.close()
-                self._judging.append(asyncio.create_task(judge(ground.program, match.saved, match.frame)))
+                self._judging.append(asyncio.create_task(judge(ground.program, match.saved)))
                 say(f"{match.frame} frames are saved in {match.saved.recording_path} and {match.saved.output_path}")
                 if self._stop.is_set() or words.frames is not None:
                     return
