@@ -16,7 +16,7 @@ ghost use Rattle.plain_server.specs.Moving.{HasLivePlayer, effect_among, with_ne
 use crate::other_list::OtherList;
 use arena_actions::MapAction;
 use arena_map::ArenaMap;
-use entity_recs::{Cmd, Effect, IDS, NewState, Rec, Reply};
+use entity_recs::{Cmd, Effect, NewState, Rec, Reply};
 use world_tree::World;
 
 /// Runs moves one after another on a world, each over all other live records.
@@ -57,8 +57,8 @@ fn list_others(world: &World, slot: u16, others: &mut OtherList)
     ensures linked { IsLinked world.now }
 {
     others.clear();
-    for id in 0..IDS as u16 {
-        put_other(world, id, slot, others);
+    for id in world.live_ids() {
+        put_other(world, *id, slot, others);
     }
 }
 
