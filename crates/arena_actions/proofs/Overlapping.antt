@@ -1,12 +1,13 @@
 -- The solids that overlap a place, found by the bits of those near it.
-use Rattle.std.proofs.Common.{◌≡◌, ℕ, zero, suc, cond, inl, inr, ◌+◌, ◌<◌, ◌≤◌, Bool, true, false, List, [], ◌∷◌, ◌++◌, length, take, filter, get_or, refl, sym, ap, ◌∙◌, arith}
-use Rattle.std.proofs.lemmas.List.{append_assoc}
+use Rattle.std.proofs.Common.{◌≡◌, ℕ, zero, suc, cond, inl, inr, ◌+◌, ◌-◌, ◌*◌, ◌/◌, ◌%◌, ◌^◌, ◌==◌, ◌<◌, ◌≤◌, Bool, true, false, List, [], ◌∷◌, ◌++◌, length, take, filter, get_or, replicate, refl, sym, ap, ◌∙◌, arith}
+use Rattle.std.proofs.lemmas.List.{append_assoc, get_or-replicate}
 use Rattle.std.proofs.lemmas.List.Elements.{filter_more}
 use Rattle.std.proofs.lemmas.Int.{ints}
+use Rattle.std.proofs.lemmas.Nat.Bits.{bit_at_ones}
 use Rattle.std.proofs.lemmas.Bool.{cases_Bool, true≢false}
 use Rattle.arena_geo.specs.Bounds.{Bounds}
 use Rattle.arena_geo.specs.Boxes.{overlaps, touches}
-use Rattle.box_strips.specs.Places.{has_place}
+use Rattle.box_strips.specs.Places.{has_bit, has_place}
 use Rattle.box_strips.specs.Strips.{AreMarked}
 
 overlapped_touches : (a b : Bounds) → overlaps a b ≡ true → touches b a ≡ true
@@ -18,6 +19,14 @@ unmarked place solids bits k d marked within none = elim (cases_Bool (overlaps p
   | inl over ↦ absurd (true≢false (sym (marked k d within (overlapped_touches place (get_or solids k d) over)) ∙ none))
   | inr apart ↦ apart
 ]
+
+-- where each bit of so many words is set, all solids are marked
+pub all_marked : (place : Bounds) (solids : List Bounds) (words : ℕ) → length solids ≤ 64 * words → AreMarked solids place (replicate words (2 ^ 64 - 1))
+all_marked place solids words few k d within h =
+    let below : k / 64 < words = omega (arith, within, few) in
+    let small : k % 64 < 64 = omega arith in
+    ap (λ (w : ℕ). has_bit w (k % 64)) (get_or-replicate words (k / 64) (2 ^ 64 - 1) 0 below)
+    ∙ ap (λ (b : ℕ). b == 1) (bit_at_ones 64 (k % 64) small)
 
 -- where no element from a place to another passes, those before the one pass as those before the other
 none_between : (test : Bounds → Bool) (xs : List Bounds) (from to : ℕ) → from ≤ to → ((i : ℕ) (d : Bounds) → i < length xs → from ≤ i → i < to → test (get_or xs i d) ≡ false)

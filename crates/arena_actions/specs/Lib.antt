@@ -17,3 +17,4 @@ pub use Rattle.arena_outcomes.specs.Takes
 pub use Rattle.arena_outcomes.specs.Meanings
 pub mod Leaps
 pub mod MapActions
+pub mod Solids

@@ -1,15 +1,16 @@
 ghost use Rattle.arena_map.specs.Maps.{IsMap, solids_of};
-ghost use Rattle.box_strips.specs.Strips.{IsIndexOf};
 ghost use Rattle.std.specs.Prelude.{◌≡◌};
 ghost use Rattle.arena_actions.specs.Leaps.{leaps_of};
+ghost use Rattle.arena_actions.specs.Solids.{MissesNone};
 ghost use Rattle.arena_outcomes.proofs.Props.{IsMap-prop};
 ghost use Rattle.std.proofs.Props.{props};
 
-use crate::boxes::SolidIndex;
 use crate::leaps::Leaps;
 use crate::moving::moved_player;
+use crate::solid_index::SolidIndex;
 use arena_map::ArenaMap;
 use entity_recs::{Cmd, Effect, IdList, Rec, Reply, StateList};
+use std::alloc::{AllocError, Global};
 use trigger_rules::touch_all;
 
 // No model: a law of a trait ranges over every value of a model, without its invariant, and these laws need a map
@@ -24,24 +25,37 @@ pub struct ArenaAction {
     pub(crate) leaps: Leaps,
     pub ghost is_map: { IsMap map } by { IsMap-prop map },
     ghost are_leaps: { leaps ≡ leaps_of map } by { Prim.hlevel props },
-    pub ghost misses_none: { IsIndexOf index (solids_of map) } by { Prim.hlevel props },
+    pub ghost misses_none: { MissesNone index.strips (solids_of map) } by { Prim.hlevel props },
 }
 
 impl ArenaAction {
-    ghost use Rattle.std.specs.Prelude.{◌≡◌, All, map};
+    ghost use Rattle.std.specs.Prelude.{◌≡◌, All, IfOk, map};
     ghost use Rattle.std.specs.List.Sorted.{IsStrictlyIncreasing};
     ghost use Rattle.entity_recs.specs.Records.{IsRecord};
     ghost use Rattle.entity_recs.specs.Commands.{command_of};
     ghost use Rattle.trigger_rules.specs.Laws.{IsPlayerOn};
     ghost use Rattle.arena_outcomes.specs.Outcomes.{outcome_in};
 
-    /// The action of this map's arena.
+    /// The action of this map's arena, which takes no memory: without an index, each move looks at all solids.
     pub fn new(map: ArenaMap) -> ArenaAction
         ensures { result.map ≡ map }
     {
-        let index = SolidIndex::of(map.bounds(), map.solids());
         let leaps = Leaps::of(&map);
-        ArenaAction { map, index, leaps }
+        ArenaAction {
+            map,
+            index: SolidIndex::none(),
+            leaps,
+        }
+    }
+
+    /// The action of this map's arena with an index over its solids, by which a move finds those that are near. The only
+    /// error is that memory is refused; the map is then gone.
+    pub fn indexed(alloc: Global, map: ArenaMap) -> Result<ArenaAction, AllocError>
+        ensures { IfOk result (λ action. action.map ≡ map) }
+    {
+        let index = SolidIndex::of(alloc, map.bounds(), map.solids())?;
+        let leaps = Leaps::of(&map);
+        Ok(ArenaAction { map, index, leaps })
     }
 
     /// The map of the arena, which keeps its rules.

@@ -1,16 +1,8 @@
+use crate::solid_index::SolidIndex;
 use arena_geo::{Aabb, Vec3};
-use box_strips::{BoxStrips, next_place};
+use box_strips::next_place;
 use entity_recs::{Rec, body_box};
 use std::marker::Model;
-
-/// How many words have a bit for each solid of a map.
-pub const SOLID_WORDS: usize = 17;
-
-/// How many strips the arena is cut into along x, and along y.
-const SOLID_STRIPS: usize = 64;
-
-/// An index over the solids of a map.
-pub type SolidIndex = BoxStrips<SOLID_STRIPS, SOLID_WORDS>;
 
 /// A list of at most `N` boxes, which lie in the value itself and take no memory.
 #[derive(Drop)]
@@ -36,7 +28,9 @@ impl<const N: usize> Boxes<N> {
     ghost use Rattle.arena_geo.specs.Boxes.{overlaps};
     ghost use Rattle.entity_recs.specs.Records.{IsRecord};
     ghost use Rattle.trigger_rules.specs.Touching.{bodies_of_solids};
-    ghost use Rattle.box_strips.specs.Strips.{IsIndexOf};
+    ghost use Rattle.box_trace.specs.declared.walls.TheConstants.{WALLS};
+    ghost use Rattle.arena_map.specs.declared.limits.TheConstants.{MOST_BLOCKS};
+    ghost use Rattle.arena_actions.specs.Solids.{MissesNone};
 
     /// No boxes.
     pub fn new() -> Self
@@ -83,13 +77,12 @@ impl<const N: usize> Boxes<N> {
     /// Puts those of the solids last that overlap `place`, in their order. `false` only where there is no room for all
     /// of them. Only those are tested that the index finds.
     pub fn push_overlapping(&mut self, place: &Aabb, solids: &[Aabb], index: &SolidIndex) -> bool
-        requires few { length solids.now ≤ 1088 }
-        requires index { IsIndexOf index.now solids.now }
+        requires few { length solids.now ≤ WALLS + MOST_BLOCKS }
+        requires index { MissesNone index.now.strips solids.now }
         ensures boxes { OnTrue result (self.new ≡ self.old ++ filter (overlaps place.now) solids.now) }
         ensures room { length self.old + length solids.now ≤ N → IsTrue result }
     {
-        let mut near = [0; SOLID_WORDS];
-        index.mark_near(place, &mut near);
+        let near = index.near(place);
         let mut at = 0;
         while let Some(found) = next_place(&near, at, solids.len()) {
             if !self.push_if_overlapping(place, solids[found]) {

@@ -15,3 +15,4 @@ mod moving;
 mod reaching;
 mod region;
 mod shot_action;
+mod solid_index;

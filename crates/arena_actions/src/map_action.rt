@@ -2,6 +2,7 @@ use crate::arena_action::ArenaAction;
 use crate::shot_action::ShotAction;
 use arena_map::ArenaMap;
 use entity_recs::{Cmd, Effect, Rec};
+use std::alloc::{AllocError, Global};
 
 /// The action of a map: that of its arena, with shots or without, as the map says.
 #[derive(Drop)]
@@ -13,7 +14,7 @@ pub enum MapAction {
 }
 
 impl MapAction {
-    ghost use Rattle.std.specs.Prelude.{◌≡◌, All, map};
+    ghost use Rattle.std.specs.Prelude.{◌≡◌, All, IfOk, map};
     ghost use Rattle.std.specs.List.Sorted.{IsStrictlyIncreasing};
     ghost use Rattle.entity_recs.specs.Records.{IsRecord};
     ghost use Rattle.entity_recs.specs.Commands.{command_of};
@@ -31,6 +32,18 @@ impl MapAction {
         } else {
             MapAction::Plain(ArenaAction::new(map))
         }
+    }
+
+    /// The action of this map with an index over its solids. The only error is that memory is refused; the map is then
+    /// gone.
+    pub fn indexed(alloc: Global, map: ArenaMap) -> Result<MapAction, AllocError>
+        ensures { IfOk result (IsActionOf map) }
+    {
+        Ok(if map.shots() {
+            MapAction::Shots(ShotAction::indexed(alloc, map)?)
+        } else {
+            MapAction::Plain(ArenaAction::indexed(alloc, map)?)
+        })
     }
 
     /// The map, which keeps its rules.

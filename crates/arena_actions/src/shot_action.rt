@@ -13,6 +13,7 @@ use arena_geo::{Aabb, Vec3};
 use arena_map::ArenaMap;
 use entity_recs::{Cmd, Effect, IdList, Rec, Reply, StateList};
 use shot_rules::{DOWN, fire, is_down, shot_range};
+use std::alloc::{AllocError, Global};
 
 /// The action of an arena where players shoot: what a player's command does there. A player that was hit too often is
 /// down until a frame comes; the others move and touch what they come to, as in each arena, and then fire.
@@ -81,7 +82,7 @@ fn fire_among(fixed: &[Aabb], effect: &mut Effect, near: &[Rec], cmd: &Cmd)
 }
 
 impl ShotAction {
-    ghost use Rattle.std.specs.Prelude.{◌≡◌, Bool, Some, All, map, length};
+    ghost use Rattle.std.specs.Prelude.{◌≡◌, Bool, Some, All, IfOk, map, length};
     ghost use Rattle.std.specs.List.Sorted.{IsStrictlyIncreasing};
     ghost use Rattle.entity_recs.specs.Records.{IsRecord};
     ghost use Rattle.entity_recs.specs.Commands.{command_of};
@@ -99,6 +100,15 @@ impl ShotAction {
         ShotAction {
             arena: ArenaAction::new(map),
         }
+    }
+
+    /// The action of this map's arena with an index over its solids. The only error is that memory is refused; the map is
+    /// then gone.
+    pub fn indexed(alloc: Global, map: ArenaMap) -> Result<ShotAction, AllocError>
+        ensures { IfOk result (λ action. action.arena.map ≡ map) }
+    {
+        let arena = ArenaAction::indexed(alloc, map)?;
+        Ok(ShotAction { arena })
     }
 
     /// The map of the arena, which keeps its rules.

@@ -21,7 +21,7 @@ bit_kept word bit i below there = elim (cases_eq i bit) [
 -- ---- a word is put
 
 -- a word is put that has a bit for sure where the bit is known of another word
-place_put : (bits : List ℕ) (word new place : ℕ) → word < length bits → (place / 64 ≡ word → has_bit new (place % 64) ≡ true) → (place / 64 ≢ word → has_place bits place ≡ true)
+pub place_put : (bits : List ℕ) (word new place : ℕ) → word < length bits → (place / 64 ≡ word → has_bit new (place % 64) ≡ true) → (place / 64 ≢ word → has_place bits place ≡ true)
     → has_place (set bits word new) place ≡ true
 place_put bits word new place within here there = elim (cases_eq (place / 64) word) [
   | inl same ↦
@@ -35,6 +35,11 @@ keeps_put bits word new within keeps place there =
     place_put bits word new place within
     (λ same. keeps (place % 64) (ap (λ (w : ℕ). has_bit (get_or bits w 0) (place % 64)) (sym same) ∙ there))
     (λ other. there)
+
+-- a word is put, and what is in another one was there
+pub other_word : (bits : List ℕ) (word new place : ℕ) → place / 64 ≢ word → has_place (set bits word new) place ≡ true → has_place bits place ≡ true
+other_word bits word new place other there =
+    sym (ap (λ (w : ℕ). has_bit w (place % 64)) (get_or-set_other bits word (place / 64) new 0 other)) ∙ there
 
 -- a place that has its bit is one of the words
 pub place_within : (bits : List ℕ) (place : ℕ) → has_place bits place ≡ true → place / 64 < length bits
@@ -72,34 +77,17 @@ or_bits a b i = ap (λ (n : ℕ). n == 1) (bit_at_or a b i) ∙ by_bits (bit_at 
 and_has : (a b i : ℕ) → has_bit a i ≡ true → has_bit b i ≡ true → has_bit (bit_and a b) i ≡ true
 and_has a b i here there = and_bits a b i ∙ and_from (has_bit a i) (has_bit b i) here there
 
-or_has : (a b i : ℕ) → has_bit a i ≡ true → has_bit (bit_or a b) i ≡ true
+pub or_has : (a b i : ℕ) → has_bit a i ≡ true → has_bit (bit_or a b) i ≡ true
 or_has a b i here = or_bits a b i ∙ or_left (has_bit a i) (has_bit b i) here
 
-or_has_too : (a b i : ℕ) → has_bit b i ≡ true → has_bit (bit_or a b) i ≡ true
+pub or_has_too : (a b i : ℕ) → has_bit b i ≡ true → has_bit (bit_or a b) i ≡ true
 or_has_too a b i there = or_bits a b i ∙ or_right (has_bit a i) (has_bit b i) there
 
 -- ---- bits of several lists
 
 -- the word of this place has its bit
-at_word : (bits : List ℕ) (n place : ℕ) → place / 64 ≡ n → has_place bits place ≡ true → has_bit (get_or bits n 0) (place % 64) ≡ true
+pub at_word : (bits : List ℕ) (n place : ℕ) → place / 64 ≡ n → has_place bits place ≡ true → has_bit (get_or bits n 0) (place % 64) ≡ true
 at_word bits n place same there = ap (λ (w : ℕ). has_bit (get_or bits w 0) (place % 64)) (sym same) ∙ there
-
--- the words so far have what one of them has, and the others what the first has
-pub record AreEither (one other bits : List ℕ) (n : ℕ) : Type 0 where
-  pub first : KeepsPlaces one bits
-  pub second : (place : ℕ) → place / 64 < n → has_place other place ≡ true → has_place bits place ≡ true
-
-pub either_more : (one other bits : List ℕ) (n : ℕ) → n < length bits → AreEither one other bits n → AreEither one other (set bits n (bit_or (get_or bits n 0) (get_or other n 0))) (n + 1)
-either_more one other bits n within are =
-    let new = bit_or (get_or bits n 0) (get_or other n 0) in
-    let keeps = keeps_put bits n new within (λ i there. or_has (get_or bits n 0) (get_or other n 0) i there) in
-    record {
-      first = λ place there. keeps place (are.first place there);
-      second = λ place below there.
-          place_put bits n new place within
-          (λ same. or_has_too (get_or bits n 0) (get_or other n 0) (place % 64) (at_word other n place same there))
-          (λ apart. are.second place (omega (arith, below, apart)) there);
-    }
 
 -- the words so far have what four have, and all have what there was
 pub record AreCommon (old a b c d bits : List ℕ) (n : ℕ) : Type 0 where

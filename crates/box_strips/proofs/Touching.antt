@@ -1,5 +1,5 @@
 -- The index misses no box that touches another one.
-use Rattle.std.proofs.Common.{◌≡◌, ℕ, ◌+◌, ◌-◌, ◌/◌, ◌^◌, ◌<◌, ◌≤◌, min, true, List, length, get_or, ℤ, ◌≤ℤ◌, ◌-ℤ◌, unsigned_abs, sym, ap, ◌∙◌, subst, inl, inr, arith}
+use Rattle.std.proofs.Common.{◌≡◌, ℕ, ◌+◌, ◌-◌, ◌/◌, ◌^◌, ◌<◌, ◌≤◌, min, true, List, get_or, ℤ, ◌≤ℤ◌, ◌-ℤ◌, unsigned_abs, sym, ap, ◌∙◌, subst, inl, inr, arith}
 use Rattle.std.specs.Int.{int_max}
 use Rattle.std.proofs.lemmas.Bool.{cases_eq}
 use Rattle.std.proofs.lemmas.Int.{ints}
@@ -8,22 +8,22 @@ use Rattle.arena_geo.specs.Boxes.{touches_on}
 use Rattle.arena_geo.proofs.Containment.{three_pass}
 use Rattle.arena_geo.proofs.Strips.{shr-mono, past-mono, min-mono}
 use Rattle.box_strips.specs.Places.{has_place}
-use Rattle.box_strips.specs.Strips.{AxisView, StripsView, strip_of, HasEnds, HasInterval, KeepsAxis, IsIndexOf, AreMarked}
+use Rattle.box_strips.specs.Strips.{AxisView, StripsView, strip_of, IsInRow, HasEnds, HasInterval, KeepsAxis, IsIndexOf, AreMarked}
+use Rattle.box_strips.proofs.InRows.{stays_in_row}
 
 -- a place after another lies in no strip before the other's
 strips_rise : (axis : AxisView) (a b : ℤ) → a ≤ℤ b → strip_of axis a ≤ strip_of axis b
 strips_rise axis a b less = min-mono _ _ (axis.strips - 1) (shr-mono _ _ axis.shift (past-mono axis.from a b less))
 
 -- what begins at a place or before it is in the row of the place's strip
-pub in_begun : (axis : AxisView) (place row : ℕ) (lo hi at : ℤ) (d : List ℕ) → HasInterval axis place lo hi → lo ≤ℤ at → row ≡ strip_of axis at → row < length axis.begun
-    → has_place (get_or axis.begun row d) place ≡ true
-in_begun axis place row lo hi at d has less row_is within =
-    has.begun row (subst (λ (n : ℕ). strip_of axis lo ≤ n) (sym row_is) (strips_rise axis lo at less)) within d
+pub in_begun : (axis : AxisView) (place row : ℕ) (lo hi at : ℤ) → HasInterval axis place lo hi → lo ≤ℤ at → row ≡ strip_of axis at → row < axis.strips → IsInRow axis.words axis.begun row place
+in_begun axis place row lo hi at has less row_is within =
+    has.begun row (subst (λ (n : ℕ). strip_of axis lo ≤ n) (sym row_is) (strips_rise axis lo at less)) within
 
 -- what ends at a place or after it is in the row of the place's strip
-pub in_ended : (axis : AxisView) (place row : ℕ) (lo hi at : ℤ) (d : List ℕ) → HasInterval axis place lo hi → at ≤ℤ hi → row ≡ axis.strips - 1 - strip_of axis at → row < length axis.ended
-    → has_place (get_or axis.ended row d) place ≡ true
-in_ended axis place row lo hi at d has less row_is within = has.ended row (below (axis.strips - 1) _ _ row (strips_rise axis at hi less) row_is) within d
+pub in_ended : (axis : AxisView) (place row : ℕ) (lo hi at : ℤ) → HasInterval axis place lo hi → at ≤ℤ hi → row ≡ axis.strips - 1 - strip_of axis at → row < axis.strips
+    → IsInRow axis.words axis.ended row place
+in_ended axis place row lo hi at has less row_is within = has.ended row (below (axis.strips - 1) _ _ row (strips_rise axis at hi less) row_is) within
   where
     below : (last a b row : ℕ) → a ≤ b → row ≡ last - a → last - b ≤ row
     below last a b row less same = omega (arith, less, same)
@@ -41,8 +41,14 @@ same_end old new at keeps =
 
 ends_stay : (old new : AxisView) (place : ℕ) (lo hi : ℤ) → KeepsAxis old new → HasEnds old place lo hi → HasEnds new place lo hi
 ends_stay old new place lo hi keeps has = record {
-  begun = λ d. ap (λ (n : ℕ). has_place (get_or new.begun n d) place) (same_strip old new lo keeps) ∙ keeps.begun (strip_of old lo) d place (has.begun d);
-  ended = λ d. ap (λ (n : ℕ). has_place (get_or new.ended n d) place) (same_end old new hi keeps) ∙ keeps.ended (old.strips - 1 - strip_of old hi) d place (has.ended d);
+  begun =
+      subst (λ (n : ℕ). IsInRow new.words new.begun n place) (sym (same_strip old new lo keeps))
+      (subst (λ (w : ℕ). IsInRow w new.begun (strip_of old lo) place) (sym keeps.words)
+      (stays_in_row old.words old.begun new.begun (strip_of old lo) place keeps.begun has.begun));
+  ended =
+      subst (λ (n : ℕ). IsInRow new.words new.ended n place) (sym (same_end old new hi keeps))
+      (subst (λ (w : ℕ). IsInRow w new.ended (old.strips - 1 - strip_of old hi) place) (sym keeps.words)
+      (stays_in_row old.words old.ended new.ended (old.strips - 1 - strip_of old hi) place keeps.ended has.ended));
 }
 
 -- each of the first boxes has its ends in the rows

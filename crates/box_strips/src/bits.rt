@@ -3,7 +3,7 @@ ghost use Rattle.box_strips.specs.Places.{has_bit, NoBitFrom, IsNextBit};
 ghost use Rattle.box_strips.specs.Places.{has_place, KeepsPlaces, NoPlaceIn, IsNextPlace};
 
 /// The word with one more bit.
-fn with_bit(word: u64, bit: usize) -> u64
+pub fn with_bit(word: u64, bit: usize) -> u64
     requires { bit < 64 }
     ensures set { has_bit result bit ≡ true }
     ensures kept { (i : ℕ) → has_bit word i ≡ true → has_bit result i ≡ true }
@@ -11,43 +11,18 @@ fn with_bit(word: u64, bit: usize) -> u64
     word | 1 << bit
 }
 
-/// The bits with that of one more place: bit `place % 64` of word `place / 64`.
-pub fn with_place<const W: usize>(bits: &[u64; W], place: usize) -> [u64; W]
-    requires { place < 64 * W }
-    ensures set { has_place result place ≡ true }
-    ensures kept { KeepsPlaces bits.now result }
-{
-    let mut more = *bits;
-    let word = place / 64;
-    more[word] = with_bit(more[word], place % 64);
-    more
-}
-
-/// The bits that one of them has.
-pub fn either<const W: usize>(one: &[u64; W], other: &[u64; W]) -> [u64; W]
-    ensures one { KeepsPlaces one.now result }
-    ensures other { KeepsPlaces other.now result }
-{
-    let mut bits = *one;
-    for word in 0..W {
-        bits[word] |= other[word];
-    }
-    bits
-}
-
-/// Sets the bits that four have in common.
-pub fn add_common<const W: usize>(
-    bits: &mut [u64; W],
-    a: &[u64; W],
-    b: &[u64; W],
-    c: &[u64; W],
-    d: &[u64; W],
-)
+/// Sets the bits that four rows have in common, of as many words each.
+pub fn add_common(bits: &mut [u64], a: &[u64], b: &[u64], c: &[u64], d: &[u64])
+    requires a { length a.now ≤ length bits.old }
+    requires b { length b.now ≡ length a.now }
+    requires c { length c.now ≡ length a.now }
+    requires d { length d.now ≡ length a.now }
     ensures kept { KeepsPlaces bits.old bits.new }
     ensures added { (place : ℕ) → has_place a.now place ≡ true → has_place b.now place ≡ true
         → has_place c.now place ≡ true → has_place d.now place ≡ true → has_place bits.new place ≡ true }
+    ensures length { length bits.new ≡ length bits.old }
 {
-    for word in 0..W {
+    for word in 0..a.len() {
         bits[word] |= a[word] & b[word] & c[word] & d[word];
     }
 }

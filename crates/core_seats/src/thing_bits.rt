@@ -53,7 +53,7 @@ pub fn index_of(alloc: Global, things: &[Rec]) -> Result<ThingIndex, AllocError>
 {
     let boxes = abs_boxes(alloc, things)?;
     let area = area_of(boxes.as_slice());
-    Ok(ThingIndex::of(&area, boxes.as_slice()))
+    ThingIndex::of(alloc, &area, boxes.as_slice())
 }
 
 /// The bits of the things that lie near a box of a region: those of all that touch it.

@@ -50,7 +50,7 @@ impl Server {
         ensures server { IfOk result (λ server. server ≡ new_server map) }
         ensures rules { OnOk result (IsMap map) }
     {
-        let action = MapAction::new(map);
+        let action = MapAction::indexed(alloc, map)?;
         let states = States::opening(alloc, action.map())?;
         Ok(Server { action, states })
     }

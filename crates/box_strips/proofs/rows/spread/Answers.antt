@@ -1,26 +1,21 @@
-use Rattle.std.proofs.Common.{refl, arith, rules}
-use Rattle.box_strips.proofs.Spreading.{spread_first, spread_more}
+use Rattle.std.proofs.Common.{refl, arith, rules, ◌∙◌}
+use Rattle.box_strips.proofs.Spreading.{spread_first, spread_more, all_spread}
 use Rattle.box_strips.proofs.rows.spread.Goals as goal
 
-pub loop-row-init : goal.loop-row-init
-loop-row-init g c = record { are = spread_first c.args.rows.now; some = omega arith; long = refl }
+pub loop-word-init : goal.loop-word-init
+loop-word-init c = record { are = spread_first c.args.words c.args.rows.now; some = omega arith; long = refl }
 
-pub loop-row-preserved : goal.loop-row-preserved
-loop-row-preserved g c =
-    let before = c.index-rows-row in
-    let here = c.index-rows-row-in-loop-row in
-    let some = c.loop-row.invariant.some in
-    let long = c.loop-row.invariant.long in
-    let within = c.loop-row-test.true in
+pub loop-word-preserved : goal.loop-word-preserved
+loop-word-preserved c =
+    let some = c.loop-word.invariant.some in
+    let long = c.loop-word.invariant.long in
     record {
-      are = spread_more c.args.rows.now c.loop-row.rows c.loop-row.row before.result here.result c.either.result (omega (arith, some)) (omega (arith, long, within)) c.loop-row.invariant.are before.is here.is
-          c.either.ensures.one c.either.ensures.other;
+      are = spread_more c.args.words c.args.rows.now c.loop-word.rows c.loop-word.word some (omega (arith, long, c.loop-word-test.true)) c.loop-word.invariant.are;
       some = omega (arith, some);
       long = search (rules, long);
     }
 
 pub returns-clause-spread : goal.returns-clause-spread
-returns-clause-spread g c row place there to least less =
-    let long = c.loop-row.invariant.long in
-    let past = c.loop-row-test.false in
-    c.loop-row.invariant.are.spread row place there to least (omega (arith, less, long, past))
+returns-clause-spread c count long_is =
+    let long = c.loop-word.invariant.long in
+    all_spread c.args.words c.args.rows.now c.loop-word.rows c.loop-word.word count (omega (arith, long, c.loop-word-test.false)) (long ∙ long_is) c.loop-word.invariant.are

@@ -2,5 +2,5 @@ use Rattle.std.proofs.Common.{◌≡◌, ◌≤◌, length}
 use Rattle.box_strips.proofs.Spreading.{AreSpread}
 use Rattle.box_strips.proofs.rows.spread.Given as goal
 
-abbrev pub invariant-loop-row : goal.invariant-loop-row
-invariant-loop-row g l = record { are : AreSpread l.fn.rows l.rows l.row; some : 1 ≤ l.row; long : length l.rows ≡ length l.fn.rows }
+abbrev pub invariant-loop-word : goal.invariant-loop-word
+invariant-loop-word l = record { are : AreSpread l.words l.fn.rows l.rows l.word; some : l.words ≤ l.word; long : length l.rows ≡ length l.fn.rows }

@@ -1,7 +1,8 @@
-use Rattle.std.proofs.Common.{List, ◌++◌, sym, ap, ◌∙◌, arith, length, filter}
+use Rattle.std.proofs.Common.{List, ◌*◌, ◌≤◌, ◌++◌, sym, ap, ◌∙◌, arith, length, filter}
 use Rattle.std.proofs.lemmas.List.{append-nil, take_all}
 use Rattle.arena_geo.specs.Bounds.{Bounds}
 use Rattle.arena_geo.specs.Boxes.{overlaps}
+use Rattle.arena_actions.specs.declared.solid_index.TheConstants.{SOLID_WORDS}
 use Rattle.arena_actions.proofs.Overlapping.{none_to, pushed}
 use Rattle.arena_actions.proofs.boxes.Boxes.push_overlapping.Goals as goal
 
@@ -13,8 +14,9 @@ loop-found-preserved g c =
     let place = c.args.place.now in
     let solids = c.args.solids.now in
     let next = c.in-Some.ensures in
-    let marked = c.mark_near.ensures.marked solids c.requires.index in
-    let none = none_to place solids c.mark_near.new.bits c.loop-found.at c.in-Some.found next.least marked next.none in
+    let few : length solids ≤ 64 * SOLID_WORDS = omega (arith, c.requires.few) in
+    let marked = c.near-near.ensures solids c.requires.index few in
+    let none = none_to place solids c.near-near.result c.loop-found.at c.in-Some.found next.least marked next.none in
     record {
       boxes =
           pushed (overlaps place) solids c.loop-found.at c.in-Some.found c.index-solids-found.result c.args.self.now c.loop-found.self c.push_if_overlapping.new.self next.within c.index-solids-found.is
@@ -27,6 +29,7 @@ pub returns-clause-boxes : goal.returns-clause-boxes
 returns-clause-boxes g c =
     let place = c.args.place.now in
     let solids = c.args.solids.now in
-    let marked = c.mark_near.ensures.marked solids c.requires.index in
-    let none = none_to place solids c.mark_near.new.bits c.loop-found.at (length solids) c.loop-found.invariant.within marked c.in_default.ensures in
+    let few : length solids ≤ 64 * SOLID_WORDS = omega (arith, c.requires.few) in
+    let marked = c.near-near.ensures solids c.requires.index few in
+    let none = none_to place solids c.near-near.result c.loop-found.at (length solids) c.loop-found.invariant.within marked c.in_default.ensures in
     c.loop-found.invariant.boxes ∙ ap (λ (l : List Bounds). c.args.self.now ++ l) (sym none ∙ ap (filter (overlaps place)) (take_all (length solids) solids (omega arith)))
