@@ -1,4 +1,4 @@
-use crate::solid_index::SolidIndex;
+use crate::solid_index::{SOLID_WORDS, SolidIndex};
 use arena_geo::{Aabb, Vec3};
 use box_strips::next_place;
 use entity_recs::{Rec, body_box};
@@ -82,7 +82,8 @@ impl<const N: usize> Boxes<N> {
         ensures boxes { OnTrue result (self.new ≡ self.old ++ filter (overlaps place.now) solids.now) }
         ensures room { length self.old + length solids.now ≤ N → IsTrue result }
     {
-        let near = index.near(place);
+        let mut near = [0; SOLID_WORDS];
+        index.mark_near(place, &mut near);
         let mut at = 0;
         while let Some(found) = next_place(&near, at, solids.len()) {
             if !self.push_if_overlapping(place, solids[found]) {

@@ -26,7 +26,7 @@ use player_move::{Moved, move_player};
 pub const FEW_SOLIDS: usize = 64;
 
 /// How many solids are kept in a crowded place, before room is made for all that there may be.
-const MANY_SOLIDS: usize = 512;
+pub const MANY_SOLIDS: usize = 512;
 
 /// The most solids that there may be: the walls and blocks of a map, and the bodies of all live records.
 const MOST_SOLIDS: usize = WALLS + MOST_BLOCKS + IDS;

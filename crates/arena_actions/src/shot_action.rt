@@ -8,7 +8,7 @@ ghost use Rattle.arena_outcomes.specs.Outcomes as outcomes;
 
 use crate::arena_action::ArenaAction;
 use crate::boxes::Boxes;
-use crate::moving::FEW_SOLIDS;
+use crate::moving::{FEW_SOLIDS, MANY_SOLIDS};
 use arena_geo::{Aabb, Vec3};
 use arena_map::ArenaMap;
 use entity_recs::{Cmd, Effect, IdList, Rec, Reply, StateList};
@@ -82,8 +82,10 @@ fn fire_among(fixed: &[Aabb], effect: &mut Effect, near: &[Rec], cmd: &Cmd)
 }
 
 impl ShotAction {
-    ghost use Rattle.std.specs.Prelude.{◌≡◌, Bool, Some, All, IfOk, map, length};
+    ghost use Rattle.std.specs.Prelude.{◌≡◌, ◌≤◌, Bool, Some, All, IfOk, map, length};
+    ghost use Rattle.std.specs.Bool.{OnTrue, OnFalse};
     ghost use Rattle.std.specs.List.Sorted.{IsStrictlyIncreasing};
+    ghost use Rattle.box_trace.specs.declared.hit.TheConstants.{MOST_SOLIDS};
     ghost use Rattle.entity_recs.specs.Records.{IsRecord};
     ghost use Rattle.entity_recs.specs.Commands.{command_of};
     ghost use Rattle.arena_map.specs.Maps.{IsMap, solids_of};
@@ -119,6 +121,37 @@ impl ShotAction {
         self.arena.map()
     }
 
+    /// The shot of a move with this effect, which may go within `place`, if at most `N` walls and blocks are there: no
+    /// others are in its way. `false` where there are more; nothing is done then.
+    #[inline(never)]
+    fn fire_among_few<const N: usize>(
+        &self,
+        place: &Aabb,
+        effect: &mut Effect,
+        near: &[Rec],
+        cmd: &Cmd,
+    ) -> bool
+        requires few { N ≤ MOST_SOLIDS }
+        requires place { range_if_any effect.old.me.origin cmd.now.buttons cmd.now.wish_x cmd.now.wish_y
+            ≡ Some place.now }
+        requires record { IsRecord effect.old.me }
+        requires records { All IsRecord near.now }
+        requires lists { length effect.old.states ≡ length effect.old.reply.got }
+        ensures walk { OnTrue result ((ended : Bool) → walk_of effect.new.me effect.new.states effect.new.reply.got ended
+            ≡ after_shot (solids_of self.now.arena.map) near.now (command_of cmd.now)
+            (walk_of effect.old.me effect.old.states effect.old.reply.got ended)) }
+        ensures origin { effect.new.reply.origin ≡ effect.old.reply.origin }
+        ensures unchanged { OnFalse result (effect.new ≡ effect.old) }
+    {
+        let all = self.arena.map.solids();
+        let mut few = Boxes::<N>::new();
+        if !few.push_overlapping(place, all, &self.arena.index) {
+            return false;
+        }
+        fire_among(few.as_slice(), effect, near, cmd);
+        true
+    }
+
     /// The shot of a move with this effect, which may go within `place`. No walls and blocks but those there are in its
     /// way, and the index finds them, unless they are very many.
     fn fire_within(&self, place: &Aabb, effect: &mut Effect, near: &[Rec], cmd: &Cmd)
@@ -132,13 +165,13 @@ impl ShotAction {
             (walk_of effect.old.me effect.old.states effect.old.reply.got ended) }
         ensures origin { effect.new.reply.origin ≡ effect.old.reply.origin }
     {
-        let all = self.arena.map.solids();
-        let mut few = Boxes::<FEW_SOLIDS>::new();
-        if few.push_overlapping(place, all, &self.arena.index) {
-            fire_among(few.as_slice(), effect, near, cmd);
-        } else {
-            fire_among(all, effect, near, cmd);
+        if self.fire_among_few::<FEW_SOLIDS>(place, effect, near, cmd) {
+            return;
         }
+        if self.fire_among_few::<MANY_SOLIDS>(place, effect, near, cmd) {
+            return;
+        }
+        fire_among(self.arena.map.solids(), effect, near, cmd);
     }
 
     /// What a command does to its player, where it isn't down, among other live records, in rising id.

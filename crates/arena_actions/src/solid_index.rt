@@ -40,16 +40,15 @@ impl SolidIndex {
         })
     }
 
-    /// The bits of the solids that may touch a place: of all that touch it, and of others.
-    pub fn near(&self, place: &Aabb) -> [u64; SOLID_WORDS]
+    /// Sets the bits of the solids that may touch a place, by their places in the list: of all that touch it, and of
+    /// others.
+    pub fn mark_near(&self, place: &Aabb, bits: &mut [u64; SOLID_WORDS])
         ensures { (solids : List Bounds) → MissesNone self.now.strips solids → length solids ≤ 64 * SOLID_WORDS
-            → AreMarked solids place.now result }
+            → AreMarked solids place.now bits.new }
     {
-        let Some(strips) = &self.strips else {
-            return [u64::MAX; SOLID_WORDS];
-        };
-        let mut near = [0; SOLID_WORDS];
-        strips.mark_near(place, &mut near);
-        near
+        match &self.strips {
+            Some(strips) => strips.mark_near(place, bits),
+            None => *bits = [u64::MAX; SOLID_WORDS],
+        }
     }
 }

@@ -73,7 +73,7 @@ impl Comparison {
     {
         let others = OtherList::new(alloc)?;
         Ok(Comparison {
-            mover: Mover::new(map, others),
+            mover: Mover::new(alloc, map, others)?,
             pending: Pending::new(alloc)?,
             lines: Lines::new(alloc, reader)?,
         })

@@ -1,6 +1,6 @@
 ghost use Rattle.arena_actions.specs.MapActions.{map_in, IsOfItsMap};
 ghost use Rattle.arena_actions.proofs.OfItsMap.{IsOfItsMap-prop};
-ghost use Rattle.std.specs.Prelude.{◌≡◌, ◌<◌, [], ◌∷◌, ◌++◌, filter, length, map, Some, IsSome, ◌^◌};
+ghost use Rattle.std.specs.Prelude.{◌≡◌, ◌<◌, [], ◌∷◌, ◌++◌, filter, length, map, Some, IfOk, IsSome, ◌^◌};
 ghost use Rattle.std.specs.Option.{option_to_list};
 ghost use Rattle.entity_recs.specs.declared.limits.TheConstants.{IDS};
 ghost use Rattle.entity_recs.specs.declared.effect.NewState.{NewState};
@@ -17,6 +17,7 @@ use crate::other_list::OtherList;
 use arena_actions::MapAction;
 use arena_map::ArenaMap;
 use entity_recs::{Cmd, Effect, NewState, Rec, Reply};
+use std::alloc::{AllocError, Global};
 use world_tree::World;
 
 /// Runs moves one after another on a world, each over all other live records.
@@ -101,14 +102,13 @@ fn player_in(world: &World, slot: u8) -> Rec
 
 impl Mover {
     ghost use Rattle.arena_actions.specs.MapActions.{map_in};
-    /// Runs moves in this arena, with this list for the records that each runs over.
-    pub fn new(map: ArenaMap, others: OtherList) -> Mover
-        ensures { map_in result.action ≡ map }
+    /// Runs moves in this arena, with this list for the records that each runs over. The only error is that memory is
+    /// refused; the map is then gone.
+    pub fn new(alloc: Global, map: ArenaMap, others: OtherList) -> Result<Mover, AllocError>
+        ensures { IfOk result (λ mover. map_in mover.action ≡ map) }
     {
-        Mover {
-            action: MapAction::new(map),
-            others,
-        }
+        let action = MapAction::indexed(alloc, map)?;
+        Ok(Mover { action, others })
     }
 
     /// What a move of a live player does.

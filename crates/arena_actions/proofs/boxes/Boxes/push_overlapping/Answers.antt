@@ -15,8 +15,8 @@ loop-found-preserved g c =
     let solids = c.args.solids.now in
     let next = c.in-Some.ensures in
     let few : length solids ≤ 64 * SOLID_WORDS = omega (arith, c.requires.few) in
-    let marked = c.near-near.ensures solids c.requires.index few in
-    let none = none_to place solids c.near-near.result c.loop-found.at c.in-Some.found next.least marked next.none in
+    let marked = c.mark_near.ensures solids c.requires.index few in
+    let none = none_to place solids c.mark_near.new.bits c.loop-found.at c.in-Some.found next.least marked next.none in
     record {
       boxes =
           pushed (overlaps place) solids c.loop-found.at c.in-Some.found c.index-solids-found.result c.args.self.now c.loop-found.self c.push_if_overlapping.new.self next.within c.index-solids-found.is
@@ -30,6 +30,6 @@ returns-clause-boxes g c =
     let place = c.args.place.now in
     let solids = c.args.solids.now in
     let few : length solids ≤ 64 * SOLID_WORDS = omega (arith, c.requires.few) in
-    let marked = c.near-near.ensures solids c.requires.index few in
-    let none = none_to place solids c.near-near.result c.loop-found.at (length solids) c.loop-found.invariant.within marked c.in_default.ensures in
+    let marked = c.mark_near.ensures solids c.requires.index few in
+    let none = none_to place solids c.mark_near.new.bits c.loop-found.at (length solids) c.loop-found.invariant.within marked c.in_default.ensures in
     c.loop-found.invariant.boxes ∙ ap (λ (l : List Bounds). c.args.self.now ++ l) (sym none ∙ ap (filter (overlaps place)) (take_all (length solids) solids (omega arith)))
