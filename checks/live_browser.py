@@ -170,7 +170,7 @@ def predicts(page, want):
     """What the page predicts of random moves is, to the sub-unit, what the program does."""
     rng = random.Random(5)
     with open(os.path.join(EXAMPLES, "arena.map"), "rb") as file:
-        lines = [line for line in file.read().splitlines() if not line.startswith((b"lift", b"teleport", b"shots"))]
+        lines = [line for line in file.read().splitlines() if not line.startswith((b"lift", b"teleport", b"shots", b"end"))]
     angle, commands = 0.0, []
     for number in range(1, PREDICTED_MOVES + 1):
         angle = rng.uniform(-math.pi, math.pi) if rng.random() < 0.06 else angle

@@ -38,6 +38,14 @@ class Checks(Calls):
         for words in (["none"], ["--frames", "0"], ["--frames", "2001"], ["--packages", "/none"], ["--sing"]):
             self.assertEqual(self.check("real_maps", *words)[1], 2)
 
+    def test_no_package(self):
+        for command in ("apt-get", "dpkg-deb"):
+            os.chmod(self.path(command, b"#!/bin/sh\necho 'E: Unable to locate package' >&2; exit 100\n"), 0o755)
+        error, status = self.check("real_maps", "oa_dm1", PATH=f"{self.folder}:{os.environ['PATH']}")
+        why = b"real_maps: apt-get download openarena-081-maps ended with status 100: E: Unable to locate package\n"
+        self.assertTrue(error.endswith(why), error)
+        self.assertEqual(status, 1)
+
     def test_no_program(self):
         for name, words in (("play", []), ("play", ["--built"]), ("workers", []), ("transcripts", []), ("soak", ["1", "1"])):
             error, status = self.check(name, *words, ARENA_CLI="/none/program")

@@ -1,6 +1,7 @@
 """`picture`: labels apart and within the page, hits and heights, and files that can't be drawn."""
 import gzip
 import os
+import re
 import unittest
 import xml.etree.ElementTree as tree
 
@@ -79,6 +80,16 @@ class Pictures(Calls):
             self.assertIn(b"reaches from 0 up to 256", self.call("picture", path, "--height", word, status=1)[1])
         for words in ([path], [path, "--height"], [path, "--height", "x"], [path, "--height", "1", "2", "3"], ["--height", "1"]):
             self.call("picture", *words, status=2)
+
+    def test_labels_are_off_the_walls_where_there_is_room(self):
+        wall = "block 17500 9000 0 65536 40000 30000"
+        lines = ["arena -65536 -65536 0 65536 65536 65536", wall, "spawn 0 0 6144", "item 9000 9000 0 gem 5", "end"]
+        path = self.path("wall.demo", "\n".join(lines).encode())
+        drawn = tree.fromstring(self.call("picture", path, "--height", "24", status=0)[0])
+        walls = [part for part in drawn.iter(SVG + "path") if "blocks at this height" in [title.text for title in part]]
+        left, top, width, height = map(float, re.fullmatch(r"M(\S+) (\S+)h(\S+)v(\S+)h\S+z", walls[0].get("d")).groups())
+        label = next(text for text in drawn.iter(SVG + "text") if text.text == "64")
+        self.assertFalse(meet(room_of(label), (left, top, left + width, top + height)))
 
     def test_ways_and_long_names_at_a_height(self):
         for name in ("duel", "lift", "tour", "stairs"):
