@@ -100,7 +100,7 @@ LiftsStayInside =
 
 -- how much a map may have, and how deep its tree is where no line says so, in numbers
 pub record LimitsAreKnown : Type 0 where
-  pub blocks : MOST_BLOCKS ≡ 4096
+  pub blocks : MOST_BLOCKS ≡ 1024
   pub spawns : MOST_SPAWNS ≡ 64
   pub items : MOST_ITEMS ≡ 400
   pub boxes : MOST_BOXES ≡ 16

@@ -2,7 +2,7 @@
 pub const LEAST_SIDE: i32 = 32_768;
 
 /// The most blocks of a map.
-pub const MOST_BLOCKS: usize = 4_096;
+pub const MOST_BLOCKS: usize = 1_024;
 
 /// The most spawns of a map.
 pub const MOST_SPAWNS: usize = 64;
