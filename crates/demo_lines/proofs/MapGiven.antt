@@ -27,6 +27,7 @@ use Rattle.demo_lines.specs.Laws.{NothingNeedsTheMap, MemoryIsForTheMap}
 use Rattle.demo_lines.proofs.Ends.{next-over, next-long, events_of_line-over, fault_of-long}
 use Rattle.demo_lines.proofs.OnePass.{next-said, fault-said, fault_said}
 use Rattle.demo_lines.proofs.MapWords.{if_ok-placed}
+use Rattle.demo_lines.proofs.Taking.{IsTaken, if_ok-taken}
 
 -- ---- what is said may be taken
 
@@ -68,8 +69,11 @@ text-taken : (stage : Stage) (printable : Bool) (first : Option Word) (rest : Li
 text-taken stage true first rest = first-taken stage first rest
 text-taken stage false first rest = tt
 
-pub line_said-taken : (stage : Stage) (raw : List ℕ) → IfOk (line_said stage raw) (IsAllowedAt stage)
-line_said-taken stage raw = text-taken stage (are_printable (text_of raw)) (first_word (text_of raw)) (rest_of (text_of raw))
+pub line_said-placed : (stage : Stage) (raw : List ℕ) → IfOk (line_said stage raw) (IsAllowedAt stage)
+line_said-placed stage raw = text-taken stage (are_printable (text_of raw)) (first_word (text_of raw)) (rest_of (text_of raw))
+
+pub line_said-taken : (stage : Stage) (raw : List ℕ) → IfOk (line_said stage raw) (IsTaken stage)
+line_said-taken stage raw = if_ok-taken stage (line_said stage raw) (line_said-placed stage raw)
 
 -- ---- one more line, whatever it is
 
@@ -79,7 +83,7 @@ module _ (P : Reading → Reading → Type 0) (over : (r : Reading) → is_over 
     (said : (r : Reading) (said : Result Line LineFault) → is_over r.stage ≡ false → IfOk said (IsAllowedAt r.stage) → P r (after_said r said)) where
   by_length : (r : Reading) (raw : List ℕ) (b : Bool) → is_over r.stage ≡ false → is_long raw ≡ b → P r (next r raw)
   by_length r raw true going is = let far : 512 < length raw = grind (arith, nat_tests) in subst (P r) (sym (next-long r raw going far)) (long r going)
-  by_length r raw false going is = subst (P r) (sym (next-said r raw going is)) (said r (line_said r.stage raw) going (line_said-taken r.stage raw))
+  by_length r raw false going is = subst (P r) (sym (next-said r raw going is)) (said r (line_said r.stage raw) going (line_said-placed r.stage raw))
 
   by_stage : (r : Reading) (raw : List ℕ) (b : Bool) → is_over r.stage ≡ b → P r (next r raw)
   by_stage r raw true is = subst (P r) (sym (next-over r raw is)) (over r is)
@@ -169,7 +173,7 @@ without-long r raw true whole going is =
       fault = λ h. fault_of-long (without_map r) false raw far ∙ sym (fault_of-long r false raw far);
     }
 without-long r raw false whole going is =
-    let taken = line_said-taken r.stage raw in
+    let taken = line_said-placed r.stage raw in
     record {
       reached = next-said (without_map r) raw going is ∙ said-without r (line_said r.stage raw) taken whole ∙ ap without_map (sym (next-said r raw going is));
       fault = λ h. fault-said (without_map r) raw is ∙ fault-without r (line_said r.stage raw) taken whole ∙ sym (fault-said r raw is);

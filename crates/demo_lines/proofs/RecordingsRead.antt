@@ -47,7 +47,8 @@ use Rattle.demo_lines.proofs.Machines.{run_of-append, outputs_of-append}
 use Rattle.demo_lines.proofs.OnePass.{next-short, events-short}
 use Rattle.demo_lines.proofs.Parts.{lines_of-unlines}
 use Rattle.demo_lines.proofs.Ink.{one_line}
-use Rattle.demo_lines.proofs.Written.{IsTaken, line_reads, line_said-back}
+use Rattle.demo_lines.proofs.Taking.{IsTaken}
+use Rattle.demo_lines.proofs.Written.{line_reads, line_said-back}
 
 -- written lines lead from a reading to one of some readings, and give these events
 record Goes {I : Type 0} (r : Reading) (lines : List Line) (s : I → Reading) (es : List Event) : Type 0 where

@@ -25,7 +25,24 @@ use Rattle.demo_lines.specs.Words.{is_allowed}
 use Rattle.demo_lines.specs.Faults.{broken_by_line, broken_by_frame, has_spawn}
 use Rattle.demo_lines.specs.Recording.{after_line, after_test, with_map_line, map_lines_left, left_at, lines_left, most_lines}
 use Rattle.demo_lines.specs.Said.{stage_fault, after_said}
-use Rattle.demo_lines.specs.Readings.{HasFewBlocks, IsReading, IsAllowedAt, HasMap}
+use Rattle.demo_lines.specs.Readings.{HasFewBlocks, IsReading, IsOfMap, IsAllowedAt, HasMap}
+
+-- the line may be taken at this stage, whatever its numbers are
+abbrev pub IsTaken : Stage → Line → Type 0
+IsTaken stage (OfMap line) = IsOfMap stage line
+IsTaken stage Frame = is_allowed stage words.Frame ≡ true
+IsTaken stage (From a) = is_allowed stage words.From ≡ true
+IsTaken stage End = is_allowed stage words.End ≡ true
+
+taken-placed : (stage : Stage) (line : Line) → IsAllowedAt stage line → IsTaken stage line
+taken-placed stage (OfMap line) is = is.1
+taken-placed stage Frame is = is
+taken-placed stage (From a) is = is
+taken-placed stage End is = is
+
+pub if_ok-taken : (stage : Stage) (said : Result Line LineFault) → IfOk said (IsAllowedAt stage) → IfOk said (IsTaken stage)
+if_ok-taken stage (Ok line) placed = taken-placed stage line placed
+if_ok-taken stage (Err why) placed = tt
 
 -- what is known holds, and fewer than n lines can follow
 pub record GoesOn (n : ℕ) (r : Reading) : Type 0 where

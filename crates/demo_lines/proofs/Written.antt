@@ -43,6 +43,7 @@ use Rattle.demo_lines.specs.Spelling.{packet_text, line_text, IsArrival, IsLine}
 use Rattle.demo_lines.specs.Laws.{PacketsHaveRoom, IsReadAs}
 use Rattle.demo_lines.specs.Readings.{IsOfMap}
 use Rattle.demo_lines.proofs.OnePass.{short_line}
+use Rattle.demo_lines.proofs.Taking.{IsTaken}
 use Rattle.demo_lines.proofs.MapWords.{IsKind, within-kind}
 use Rattle.demo_lines.proofs.Prefixes.{bytes_eq-same}
 use Rattle.demo_lines.proofs.Spellings.{packet_bytes-lower}
@@ -180,13 +181,6 @@ word_in-map text word is =
     ∙ ap (option_map words.OfMap) is
 
 -- ---- what a written line is read as, text by text
-
--- the line may be taken at this stage, whatever its numbers are
-abbrev pub IsTaken : Stage → Line → Type 0
-IsTaken stage (OfMap line) = IsOfMap stage line
-IsTaken stage Frame = is_allowed stage words.Frame ≡ true
-IsTaken stage (From a) = is_allowed stage words.From ≡ true
-IsTaken stage End = is_allowed stage words.End ≡ true
 
 -- the text of the line is all of it, and its word, its form and what it says are these
 pub record Reads_as (raw : List ℕ) (line : Line) : Type 0 where
