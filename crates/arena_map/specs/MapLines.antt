@@ -19,7 +19,7 @@ abbrev pub is_lift : Kind → Bool
 is_lift kinds.Lift = true
 is_lift _ = false
 
--- the number is one of blocks that a line may allow
+-- a line may allow so many blocks
 pub record IsBlockLimit (blocks : ℕ) : Type 0 where
   pub least : DEFAULT_BLOCKS ≤ blocks
   pub most : blocks ≤ MOST_BLOCKS

@@ -148,9 +148,8 @@ pub record IsDelay (frames : ℕ) : Type 0 where
   pub least : 1 ≤ frames
   pub most : frames ≤ 65535
 
--- so many blocks may a map have for which so many lines say that, and before these lines come so many blocks: the number
--- is one that a line may allow, at most one line says it and no block comes before it, and where none says it, it is that
--- of a map without such a line
+-- a map may have so many blocks, so many lines say that, and so many blocks come before such a line: a line may allow so
+-- many, at most one line says it, and before all blocks, and where none says it, it is as without such a line
 pub record IsLimit (most lines early : ℕ) : Type 0 where
   pub range : IsBlockLimit most
   pub few_lines : lines ≤ 1

@@ -59,8 +59,8 @@ pub fn lines_give_their_things()
 
 /// The line of an arena begins a map with nothing in it, of depth 4, without shots and with room for 1,024 blocks. The line
 /// of a block, a spawn or a thing puts it after those that the map has, that of a depth sets the depth, that of shots lets
-/// players shoot, and that of a number of blocks makes it the most; each changes nothing else. The solids are the walls,
-/// and then the blocks in their order.
+/// players shoot, and that of a number of blocks says how many there may be; each changes nothing else. The solids are the
+/// walls, and then the blocks in their order.
 pub fn lines_change_their_parts()
     ensures { LinesChangeTheirParts }
 {}
