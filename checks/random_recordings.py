@@ -20,10 +20,12 @@ FAULTY = [
     (b"depth 03", 4, False),
     (b"depth 3 4", 4, False),
     (b"shots 1", 4, False),
+    (b"blocks 01024", 4, False),
     (b"spawn 0 0 6144", 5, True),
     (b"depth 3", 5, True),
     (b"depth 6", 5, True),
     (b"shots", 5, True),
+    (b"blocks 4097", 5, True),
     (b"from 65536 -", 6, True),
     (b"from 7 010", 8, True),
     (b"from 7 01g1", 8, True),
@@ -39,6 +41,8 @@ FAULTY_IN_MAP = [
     (b"lift 0 0 0 9 9 9 1048576 1", 7),
     (b"depth 2", 6),
     (b"depth 6", 6),
+    (b"blocks 1023", 6),
+    (b"blocks 4097", 6),
 ]
 
 
@@ -118,6 +122,9 @@ class Maker:
         if self.rng.randrange(2) == 0:
             lines.append(b"shots")
         lines[1:] = self.rng.sample(lines[1:], len(lines) - 1)
+        if self.rng.randrange(2) == 0:
+            first = next((place for place, text in enumerate(lines) if text.startswith(b"block ")), len(lines))
+            lines.insert(self.rng.randrange(1, first + 1), line("blocks", self.rng.choice([1024, 1025, 4096])))
         return lines
 
     def step(self, port):

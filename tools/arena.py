@@ -38,6 +38,7 @@ from typing import BinaryIO, Dict, Iterator, List, Optional, Sequence, Tuple
 UNIT = 256
 PLAYERS = 64
 FIRST_THING = 64
+DEFAULT_BLOCKS = 1024
 KINDS = ("player", "ammo", "gem", "teleporter", "goal", "lift")
 # A player's body and an item's, from the origin.
 PLAYER_BODY = (-4096, -4096, -6144, 4096, 4096, 8192)
@@ -234,6 +235,7 @@ class Map:
     bounds: Optional[Box] = None
     depth: int = 4
     shots: bool = False
+    most_blocks: int = DEFAULT_BLOCKS
     blocks: List[Box] = field(default_factory=list)
     spawns: List[Point] = field(default_factory=list)
     things: List[Thing] = field(default_factory=list)
@@ -253,6 +255,8 @@ class Map:
             (self.depth,) = _integers(fields, 1)
         elif word == b"shots" and not fields:
             self.shots = True
+        elif word == b"blocks":
+            (self.most_blocks,) = _integers(fields, 1)
         else:
             self.things.append(self._thing(word, fields))
 

@@ -2,7 +2,7 @@
 import arena
 
 LEAST_SIDE = 32768
-MOST = {"block": 1024, "spawn": 64, "item": 400, "teleport": 16, "goal": 16, "lift": 16}
+MOST = {"spawn": 64, "item": 400, "teleport": 16, "goal": 16, "lift": 16}
 AXES = "xyz"
 
 
@@ -89,6 +89,13 @@ def overlapped(box, name, others):
             yield 8, f"{name} reaches {span(box)}, and overlaps {other_name()} {span(other)}"
 
 
+def late_limit(before, lines):
+    """Why a line on how many blocks there may be comes too late."""
+    if any(line.split(b" ")[0] == b"blocks" for line in lines):
+        return f"line {line_of(lines, b'blocks', 0)} says already how many blocks there may be"
+    return f"it comes after the block of line {line_of(lines, b'block', 0)}" if before.blocks else None
+
+
 def broken_by(before, lines, line):
     """The tests of a line that follows these lines of a map, by rising rule: the rule, and why it is broken or None."""
     own = arena.Map(before.bounds)
@@ -97,15 +104,18 @@ def broken_by(before, lines, line):
     if word == "arena":
         yield 1, side(bounds)
         return
-    if word not in MOST:
+    if word == "blocks":
+        yield 3, late_limit(before, lines)
+    if word not in MOST and word != "block":
         return
     box = own.blocks[0] if word == "block" else None if word == "spawn" else own.things[0].box
     number = arena.FIRST_THING + len(before.things)
     if word not in ("spawn", "item"):
         yield 2, flat(box) or outside(box, bounds, f"the {word}")
     count = count_of(before, word) + 1
-    if count > MOST[word]:
-        yield 3, f"it is the {count:,}th of these lines, and a map has at most {MOST[word]:,}"
+    most = before.most_blocks if word == "block" else MOST[word]
+    if count > most:
+        yield 3, f"it is the {count:,}th of these lines, and {'this map' if most > arena.DEFAULT_BLOCKS else 'a map'} has at most {most:,}"
     if word == "spawn":
         yield 4, body_at(own.spawns[0], bounds, "spawn")
     if word == "teleport":
@@ -131,7 +141,7 @@ def broken_rule(before, lines, line):
 class Watch:
     """The lines of a map as they come, until one breaks a rule or is none of a map."""
 
-    MOST_LINES = 4_000
+    MOST_LINES = 8_000
 
     def __init__(self):
         self.map, self.lines, self.is_over = arena.Map(), [], False

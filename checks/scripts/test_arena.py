@@ -57,7 +57,7 @@ class Recordings(unittest.TestCase):
             lines = [line.rstrip("\r") for line in text.split("\n")]
             read, _ = recording(name)
             with self.subTest(name):
-                self.assertEqual(lines_of(read.map), sorted(line for line in lines if not line.startswith("depth")))
+                self.assertEqual(lines_of(read.map), sorted(line for line in lines if not line.startswith(("depth", "blocks"))))
                 self.assertEqual([f"depth {read.map.depth}"], [line for line in lines if line.startswith("depth")] or ["depth 4"])
 
     def test_packets_are_read_whole(self):

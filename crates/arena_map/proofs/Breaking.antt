@@ -1,5 +1,5 @@
 -- That a line passes the test of each rule that the map with it keeps.
-use Rattle.std.proofs.Common.{◌≡◌, ℕ, ◌+◌, ◌<◌, ◌≤◌, ◌==◌, Bool, true, false, not, cond, ◌||◌, nat_lt, List, [], ◌∷◌, ◌++◌, length, Some, None, All, AllPairs, count_by, get_or, refl, sym, ap, ◌∙◌, subst, arith, length-append}
+use Rattle.std.proofs.Common.{◌≡◌, ℕ, ◌+◌, ◌<◌, ◌≤◌, ◌==◌, Bool, true, false, not, cond, ◌||◌, ◌&&◌, nat_lt, List, [], ◌∷◌, ◌++◌, length, Some, None, All, AllPairs, count_by, get_or, refl, sym, ap, ◌∙◌, subst, arith, length-append}
 use Rattle.std.specs.List.{list_any}
 use Rattle.std.proofs.lemmas.Bool.Decides.{nat_tests}
 use Rattle.std.proofs.lemmas.List.Elements.{filter_map-append}
@@ -10,15 +10,15 @@ use Rattle.std.specs.Cmp.Derive.{both_true}
 use Rattle.arena_geo.specs.declared.vec3.Vec3.{Vec3}
 use Rattle.arena_geo.specs.Bounds.{Bounds, bounds}
 use Rattle.arena_geo.specs.Boxes.{overlaps, is_blocked}
-use Rattle.arena_map.specs.declared.limits.TheConstants.{MOST_BLOCKS, MOST_BOXES, MOST_ITEMS, MOST_SPAWNS}
+use Rattle.arena_map.specs.declared.limits.TheConstants.{MOST_BOXES, MOST_ITEMS, MOST_SPAWNS}
 use Rattle.arena_map.specs.declared.map_fault.MapFault.{MapFault}
 use Rattle.arena_map.specs.declared.map_fault.MapFault.TheVariants as fault
 use Rattle.arena_map.specs.declared.map_line.MapLine.{MapLine}
-use Rattle.arena_map.specs.declared.map_line.MapLine.TheVariants.{Arena, Block, Spawn, Item, Teleport, Goal, Lift, Depth, Shots}
+use Rattle.arena_map.specs.declared.map_line.MapLine.TheVariants.{Arena, Block, Spawn, Item, Teleport, Goal, Lift, Depth, Shots, Blocks}
 use Rattle.arena_map.specs.MapLines.{is_thing_line, is_item_line, is_teleport_line, is_goal_line, is_lift_line}
 use Rattle.arena_map.specs.Positions.{is_box_inside, is_player_inside, shaft, shaft_of, keeps_box, keeps_stand, keeps_item, keeps_travel}
 use Rattle.arena_map.specs.Maps.{MapView, shafts_of, IsMap}
-use Rattle.arena_map.specs.Rules.{broken_by_arena, bare_map, keeps_count, meets_shaft, keeps_shafts, broken_rule, with_block, with_spawn, with_thing, with_depth, with_shots, with_line}
+use Rattle.arena_map.specs.Rules.{broken_by_arena, bare_map, keeps_count, meets_shaft, keeps_shafts, broken_rule, with_block, with_spawn, with_thing, with_depth, with_shots, with_limit, with_line}
 use Rattle.arena_map.specs.KeptRules.{HasFew, HasClearShafts, KeepsRule}
 use Rattle.arena_map.proofs.Keeping.{first_broken, count-push}
 
@@ -95,7 +95,7 @@ arena-passes map lo hi fault.Shaft = refl
 block-passes : (map : MapView) (lo hi : Vec3) (rule : MapFault) → KeepsRule (with_block map (bounds lo hi)) rule → passes map (Block lo hi) rule ≡ true
 block-passes map lo hi fault.Arena keeps = refl
 block-passes map lo hi fault.Box keeps = all-last (λ block. is_box_inside map.bounds block.lo block.hi ≡ true) map.blocks (bounds lo hi) keeps.0
-block-passes map lo hi fault.Count keeps = room-of map.blocks (bounds lo hi) MOST_BLOCKS keeps.blocks
+block-passes map lo hi fault.Count keeps = room-of map.blocks (bounds lo hi) map.most_blocks keeps.blocks
 block-passes map lo hi fault.Stand keeps = refl
 block-passes map lo hi fault.Item keeps = refl
 block-passes map lo hi fault.Travel keeps = refl
@@ -125,6 +125,7 @@ thing-room map (Teleport lo hi dest) is few = room-before is_teleport_line MOST_
 thing-room map (Goal lo hi) is few = room-before is_goal_line MOST_BOXES map.things (Goal lo hi) refl few.goals
 thing-room map (Depth depth) is few = cc
 thing-room map Shots is few = cc
+thing-room map (Blocks most) is few = cc
 thing-room map (Lift lo hi rise speed) is few = room-before is_lift_line MOST_BOXES map.things (Lift lo hi rise speed) refl few.lifts
 
 -- a lift's shaft meets no block and no earlier shaft
@@ -146,6 +147,7 @@ thing-clear map (Teleport lo hi dest) is has = refl
 thing-clear map (Goal lo hi) is has = refl
 thing-clear map (Depth depth) is has = refl
 thing-clear map Shots is has = refl
+thing-clear map (Blocks most) is has = refl
 thing-clear map (Lift lo hi rise speed) is has = lift-clear map lo hi rise speed has
 
 thing-passes : (map : MapView) (line : MapLine) → is_thing_line line ≡ true → (rule : MapFault) → KeepsRule (with_thing map line) rule → passes map line rule ≡ true
@@ -182,6 +184,21 @@ shots-passes map fault.Travel keeps = refl
 shots-passes map fault.NoSpawn keeps = refl
 shots-passes map fault.Shaft keeps = refl
 
+limit-first : (map : MapView) (most : ℕ) → HasFew (with_limit map most) → (map.limit_lines == 0 && length map.blocks == 0) ≡ true
+limit-first map most few =
+    let early = few.early_blocks in
+    both_true (none-before map.limit_lines few.limit_lines) (none-before (length map.blocks) (omega (arith, early)))
+
+limit-passes : (map : MapView) (most : ℕ) (rule : MapFault) → KeepsRule (with_limit map most) rule → passes map (Blocks most) rule ≡ true
+limit-passes map most fault.Arena keeps = refl
+limit-passes map most fault.Box keeps = refl
+limit-passes map most fault.Count keeps = limit-first map most keeps
+limit-passes map most fault.Stand keeps = refl
+limit-passes map most fault.Item keeps = refl
+limit-passes map most fault.Travel keeps = refl
+limit-passes map most fault.NoSpawn keeps = refl
+limit-passes map most fault.Shaft keeps = refl
+
 -- a line passes the test of each rule that the map with it keeps
 pub line-passes : (map : MapView) (line : MapLine) (rule : MapFault) → KeepsRule (with_line map line) rule → passes map line rule ≡ true
 line-passes map (Arena lo hi) rule keeps = arena-passes map lo hi rule
@@ -193,6 +210,7 @@ line-passes map (Goal lo hi) rule keeps = thing-passes map (Goal lo hi) refl rul
 line-passes map (Lift lo hi rise speed) rule keeps = thing-passes map (Lift lo hi rise speed) refl rule keeps
 line-passes map (Depth depth) rule keeps = depth-passes map depth rule keeps
 line-passes map Shots rule keeps = shots-passes map rule keeps
+line-passes map (Blocks most) rule keeps = limit-passes map most rule keeps
 
 -- ---- maps that keep the rules
 
@@ -215,6 +233,8 @@ map-keeps map is fault.Count = record {
   lifts = is.few_lifts;
   depth_lines = is.few_depth_lines;
   shots_lines = few-shots map.shots map.shots_lines is.shots_line;
+  limit_lines = is.limit.few_lines;
+  early_blocks = is.limit.first;
 }
 map-keeps map is fault.Stand = (λ i d within. (is.spawns i d within).inside, λ i d within. (is.things i d within).stand)
 map-keeps map is fault.Item = λ i d within. (is.things i d within).item

@@ -3,7 +3,7 @@ use Rattle.std.proofs.Common.{◌≡◌, ◌+◌, true, List, [], ◌∷◌, len
 use Rattle.std.specs.List.{AllByRecursion}
 use Rattle.std.proofs.lemmas.List.Sums.{sum_by-cons}
 use Rattle.arena_map.specs.declared.map_line.MapLine.{MapLine}
-use Rattle.arena_map.specs.declared.map_line.MapLine.TheVariants.{Arena, Block, Spawn, Item, Teleport, Goal, Lift, Depth, Shots}
+use Rattle.arena_map.specs.declared.map_line.MapLine.TheVariants.{Arena, Block, Spawn, Item, Teleport, Goal, Lift, Depth, Shots, Blocks}
 use Rattle.arena_map.specs.MapLines.{is_thing_line, is_item_line, is_teleport_line, is_goal_line, is_lift_line}
 use Rattle.arena_map.specs.Positions.{shaft_of}
 
@@ -22,6 +22,7 @@ shafts-count (Teleport lo hi dest ∷ things) = shafts-count things
 shafts-count (Goal lo hi ∷ things) = shafts-count things
 shafts-count (Depth depth ∷ things) = shafts-count things
 shafts-count (Shots ∷ things) = shafts-count things
+shafts-count (Blocks most ∷ things) = shafts-count things
 shafts-count (Lift lo hi rise speed ∷ things) = let more = shafts-count things in omega (arith, more, count-cons is_lift_line (Lift lo hi rise speed) things)
 
 -- each thing is an item, a teleporter, a goal or a lift
@@ -33,6 +34,7 @@ all-counted (Block lo hi ∷ things) each = cc
 all-counted (Spawn at ∷ things) each = cc
 all-counted (Depth depth ∷ things) each = cc
 all-counted (Shots ∷ things) each = cc
+all-counted (Blocks most ∷ things) each = cc
 all-counted (Item at kind delay ∷ things) each = let more = all-counted things each.1 in omega (arith, more, count-cons is_item_line (Item at kind delay) things)
 all-counted (Teleport lo hi dest ∷ things) each = let more = all-counted things each.1 in omega (arith, more, count-cons is_teleport_line (Teleport lo hi dest) things)
 all-counted (Goal lo hi ∷ things) each = let more = all-counted things each.1 in omega (arith, more, count-cons is_goal_line (Goal lo hi) things)

@@ -10,14 +10,14 @@ use Rattle.arena_map.specs.declared.limits.TheConstants.{MOST_BOXES, MOST_ITEMS}
 use Rattle.arena_map.specs.declared.map_fault.MapFault.{MapFault}
 use Rattle.arena_map.specs.declared.map_fault.MapFault.TheVariants as fault
 use Rattle.arena_map.specs.declared.map_line.MapLine.{MapLine}
-use Rattle.arena_map.specs.declared.map_line.MapLine.TheVariants.{Arena, Block, Spawn, Item, Teleport, Goal, Lift, Depth, Shots}
+use Rattle.arena_map.specs.declared.map_line.MapLine.TheVariants.{Arena, Block, Spawn, Item, Teleport, Goal, Lift, Depth, Shots, Blocks}
 use Rattle.arena_map.specs.Faults.{number_of}
 use Rattle.arena_map.specs.MapLines.{is_item_line, is_teleport_line, is_goal_line, is_lift_line}
 use Rattle.arena_map.specs.Positions.{is_wide, is_box_inside, is_player_inside, shaft_of, keeps_box, keeps_stand, keeps_item, keeps_travel}
 use Rattle.arena_map.specs.Maps.{MapView, shafts_of, IsMap}
-use Rattle.arena_map.specs.Rules.{broken_by_arena, bare_map, broken_rule, with_block, with_spawn, with_thing, with_depth, with_shots, with_line}
+use Rattle.arena_map.specs.Rules.{broken_by_arena, bare_map, broken_rule, with_block, with_spawn, with_thing, with_depth, with_shots, with_limit, with_line}
 use Rattle.arena_map.specs.KeptRules.{KeepsRule, IsFirstBroken}
-use Rattle.arena_map.proofs.Keeping.{all-push, first_broken, clear-more, few-more, item-room, teleporter-room, goal-room, lift-room, HasShafts, shafts-more, first-line}
+use Rattle.arena_map.proofs.Keeping.{all-push, first_broken, clear-more, few-more, item-room, teleporter-room, goal-room, lift-room, HasShafts, shafts-more, first-line, first-limit}
 use Rattle.arena_map.proofs.Breaking.{passes, line-passes, map-keeps}
 
 true-false : true ≡ false → ⊥
@@ -46,6 +46,8 @@ block-keeps map lo hi is fault.Count pass =
       lifts = kept.lifts;
       depth_lines = kept.depth_lines;
       shots_lines = kept.shots_lines;
+      limit_lines = kept.limit_lines;
+      early_blocks = kept.early_blocks;
     }
 block-keeps map lo hi is fault.Stand pass = is fault.Stand
 block-keeps map lo hi is fault.Item pass = is fault.Item
@@ -70,6 +72,8 @@ spawn-keeps map at is fault.Count pass =
       lifts = kept.lifts;
       depth_lines = kept.depth_lines;
       shots_lines = kept.shots_lines;
+      limit_lines = kept.limit_lines;
+      early_blocks = kept.early_blocks;
     }
 spawn-keeps map at is fault.Stand pass = let kept = is fault.Stand in (all-push (λ at. is_player_inside map.bounds at ≡ true) map.spawns at kept.0 pass, kept.1)
 spawn-keeps map at is fault.Item pass = is fault.Item
@@ -92,6 +96,8 @@ thing-keeps map line is fault.Count pass =
       lifts = few-more is_lift_line MOST_BOXES map.things line kept.lifts (lift-room map line pass);
       depth_lines = kept.depth_lines;
       shots_lines = kept.shots_lines;
+      limit_lines = kept.limit_lines;
+      early_blocks = kept.early_blocks;
     }
 thing-keeps map line is fault.Stand pass = let kept = is fault.Stand in (kept.0, all-push (λ l. keeps_stand map.bounds l ≡ true) map.things line kept.1 pass)
 thing-keeps map line is fault.Item pass = all-push (λ l. keeps_item map.bounds l ≡ true) map.things line (is fault.Item) pass
@@ -118,6 +124,8 @@ depth-keeps map depth is fault.Count pass =
       lifts = kept.lifts;
       depth_lines = first-line map.depth_lines pass;
       shots_lines = kept.shots_lines;
+      limit_lines = kept.limit_lines;
+      early_blocks = kept.early_blocks;
     }
 depth-keeps map depth is fault.Stand pass = is fault.Stand
 depth-keeps map depth is fault.Item pass = is fault.Item
@@ -140,12 +148,39 @@ shots-keeps map is fault.Count pass =
       lifts = kept.lifts;
       depth_lines = kept.depth_lines;
       shots_lines = first-line map.shots_lines pass;
+      limit_lines = kept.limit_lines;
+      early_blocks = kept.early_blocks;
     }
 shots-keeps map is fault.Stand pass = is fault.Stand
 shots-keeps map is fault.Item pass = is fault.Item
 shots-keeps map is fault.Travel pass = is fault.Travel
 shots-keeps map is fault.NoSpawn pass = tt
 shots-keeps map is fault.Shaft pass = let kept = is fault.Shaft in record { clear = kept.clear; apart = kept.apart }
+
+limit-keeps : (map : MapView) (most : ℕ) → KeepsEach map → (rule : MapFault) → passes map (Blocks most) rule ≡ true → KeepsRule (with_limit map most) rule
+unfolding KeepsEach
+limit-keeps map most is fault.Arena pass = is fault.Arena
+limit-keeps map most is fault.Box pass = is fault.Box
+limit-keeps map most is fault.Count pass =
+    let kept = is fault.Count in
+    let first = first-limit map pass in
+    record {
+      blocks = omega (arith, first.no_block);
+      spawns = kept.spawns;
+      items = kept.items;
+      teleporters = kept.teleporters;
+      goals = kept.goals;
+      lifts = kept.lifts;
+      depth_lines = kept.depth_lines;
+      shots_lines = kept.shots_lines;
+      limit_lines = omega (arith, first.no_line);
+      early_blocks = omega (arith, first.no_block, kept.early_blocks);
+    }
+limit-keeps map most is fault.Stand pass = is fault.Stand
+limit-keeps map most is fault.Item pass = is fault.Item
+limit-keeps map most is fault.Travel pass = is fault.Travel
+limit-keeps map most is fault.NoSpawn pass = tt
+limit-keeps map most is fault.Shaft pass = let kept = is fault.Shaft in record { clear = kept.clear; apart = kept.apart }
 
 -- the map with a line keeps each rule whose test the line passes, where the map keeps all
 line-keeps : (map : MapView) (line : MapLine) → KeepsEach map → (rule : MapFault) → passes map line rule ≡ true → KeepsRule (with_line map line) rule
@@ -159,6 +194,7 @@ line-keeps map (Goal lo hi) is rule pass = thing-keeps map (Goal lo hi) is rule 
 line-keeps map (Lift lo hi rise speed) is rule pass = thing-keeps map (Lift lo hi rise speed) is rule pass
 line-keeps map (Depth depth) is rule pass = depth-keeps map depth is rule pass
 line-keeps map Shots is rule pass = shots-keeps map is rule pass
+line-keeps map (Blocks most) is rule pass = limit-keeps map most is rule pass
 
 -- ---- the rules in their order
 
@@ -315,7 +351,7 @@ pub first-begun : (lo hi : Vec3) (rule : MapFault) → IsFirstBroken (bare_map l
 first-begun lo hi fault.Arena first = ap (λ (wide : Bool). if wide then None else Some fault.Arena) (fails-where (is_wide lo hi ≡ true) (is_wide lo hi) (λ e. e) first.broken)
 first-begun lo hi fault.Box first = absurd (first.broken (none-in (λ block. is_box_inside (bounds lo hi) block.lo block.hi ≡ true), none-in (λ line. keeps_box (bounds lo hi) line ≡ true)))
 first-begun lo hi fault.Count first =
-    absurd (first.broken (record { blocks = omega arith; spawns = omega arith; items = omega arith; teleporters = omega arith; goals = omega arith; lifts = omega arith; depth_lines = omega arith; shots_lines = omega arith }))
+    absurd (first.broken (record { blocks = omega arith; spawns = omega arith; items = omega arith; teleporters = omega arith; goals = omega arith; lifts = omega arith; depth_lines = omega arith; shots_lines = omega arith; limit_lines = omega arith; early_blocks = refl }))
 first-begun lo hi fault.Stand first = absurd (first.broken (none-in (λ at. is_player_inside (bounds lo hi) at ≡ true), none-in (λ line. keeps_stand (bounds lo hi) line ≡ true)))
 first-begun lo hi fault.Item first = absurd (first.broken (none-in (λ line. keeps_item (bounds lo hi) line ≡ true)))
 first-begun lo hi fault.Travel first = absurd (first.broken (none-in (λ line. keeps_travel (bounds lo hi) line ≡ true)))

@@ -1,5 +1,5 @@
 -- That lines which break no rule give maps that keep the rules.
-use Rattle.std.proofs.Common.{◌≡◌, ℕ, ◌+◌, ◌<◌, ◌≤◌, ◌==◌, Bool, true, false, not, ◌||◌, cond, if◌then◌else◌, List, [], ◌∷◌, ◌++◌, Option, Some, None, All, AllPairs, count_by, filter_map, get_or, refl, sym, ap, ◌∙◌, subst, arith, length-append, append-nil}
+use Rattle.std.proofs.Common.{◌≡◌, ℕ, ◌+◌, ◌<◌, ◌≤◌, ◌==◌, Bool, true, false, not, ◌||◌, ◌&&◌, length, cond, if◌then◌else◌, List, [], ◌∷◌, ◌++◌, Option, Some, None, All, AllPairs, count_by, filter_map, get_or, refl, sym, ap, ◌∙◌, subst, arith, length-append, append-nil}
 use Rattle.std.specs.List.{list_any}
 use Rattle.std.proofs.lemmas.Bool.Decides.{nat_tests}
 use Rattle.std.proofs.lemmas.List.Elements.{All-append, All-from_recursion, filter_map-append}
@@ -16,11 +16,11 @@ use Rattle.arena_map.specs.declared.limits.TheConstants.{MOST_BOXES, MOST_ITEMS}
 use Rattle.arena_map.specs.declared.map_fault.MapFault.{MapFault}
 use Rattle.arena_map.specs.declared.map_fault.MapFault.TheVariants as fault
 use Rattle.arena_map.specs.declared.map_line.MapLine.{MapLine}
-use Rattle.arena_map.specs.declared.map_line.MapLine.TheVariants.{Arena, Block, Spawn, Item, Teleport, Goal, Lift, Depth, Shots}
-use Rattle.arena_map.specs.MapLines.{IsWithinLimits, is_thing_line, is_item_line, is_teleport_line, is_goal_line, is_lift_line}
+use Rattle.arena_map.specs.declared.map_line.MapLine.TheVariants.{Arena, Block, Spawn, Item, Teleport, Goal, Lift, Depth, Shots, Blocks}
+use Rattle.arena_map.specs.MapLines.{IsWithinLimits, IsBlockLimit, is_thing_line, is_item_line, is_teleport_line, is_goal_line, is_lift_line}
 use Rattle.arena_map.specs.Positions.{is_wide, is_thick, shaft, shaft_of, has_thick_lift, keeps_box, keeps_stand, keeps_item, keeps_travel}
 use Rattle.arena_map.specs.Maps.{MapView, shafts_of, IsSpawn, IsBlock, IsThingInside, IsMap}
-use Rattle.arena_map.specs.Rules.{broken_by_arena, bare_map, keeps_count, meets_shaft, keeps_shafts, broken_rule, with_block, with_spawn, with_thing, with_depth, with_shots, with_line}
+use Rattle.arena_map.specs.Rules.{broken_by_arena, bare_map, keeps_count, meets_shaft, keeps_shafts, broken_rule, with_block, with_spawn, with_thing, with_depth, with_shots, with_limit, with_line}
 use Rattle.arena_map.proofs.Boxes.{near_box, wide_ordered, thick_box}
 
 -- ---- lists
@@ -104,6 +104,12 @@ bare_map-is_map lo hi low high wide = record {
   few_depth_lines = omega arith;
   default_depth = λ none. refl;
   shots_line = refl;
+  limit = record {
+    range = record { least = omega arith; most = omega arith };
+    few_lines = omega arith;
+    default = λ none. refl;
+    first = refl;
+  };
 }
 
 -- the map that an arena begins without breaking a rule
@@ -158,6 +164,7 @@ with_block-is_map map lo hi is near keeps = record {
   few_depth_lines = is.few_depth_lines;
   default_depth = is.default_depth;
   shots_line = is.shots_line;
+  limit = is.limit;
 }
 
 pub with_spawn-is_map : (map : MapView) (at : Vec3) → IsMap map → IsWithinLimits (Spawn at) → KeepsAll map (Spawn at) → IsMap (with_spawn map at)
@@ -181,6 +188,7 @@ with_spawn-is_map map at is near keeps = record {
   few_depth_lines = is.few_depth_lines;
   default_depth = is.default_depth;
   shots_line = is.shots_line;
+  limit = is.limit;
 }
 
 -- ---- things
@@ -245,6 +253,7 @@ shafts-more map (Teleport lo hi dest) has keeps = shafts-same map.blocks (shafts
 shafts-more map (Goal lo hi) has keeps = shafts-same map.blocks (shafts_of map) has
 shafts-more map (Depth depth) has keeps = shafts-same map.blocks (shafts_of map) has
 shafts-more map Shots has keeps = shafts-same map.blocks (shafts_of map) has
+shafts-more map (Blocks most) has keeps = shafts-same map.blocks (shafts_of map) has
 
 pub with_thing-is_map : (map : MapView) (line : MapLine) → IsMap map → is_thing_line line ≡ true → IsWithinLimits line → KeepsAll map line → IsMap (with_thing map line)
 with_thing-is_map map line is thing limits keeps =
@@ -277,6 +286,7 @@ with_thing-is_map map line is thing limits keeps =
       few_depth_lines = is.few_depth_lines;
       default_depth = is.default_depth;
       shots_line = is.shots_line;
+      limit = is.limit;
     }
 
 -- ---- settings
@@ -309,6 +319,7 @@ with_depth-is_map map depth is range keeps = record {
   few_depth_lines = first-line map.depth_lines keeps.count;
   default_depth = λ none. absurd (omega (arith, none));
   shots_line = is.shots_line;
+  limit = is.limit;
 }
 
 pub with_shots-is_map : (map : MapView) → IsMap map → KeepsAll map Shots → IsMap (with_shots map)
@@ -332,7 +343,49 @@ with_shots-is_map map is keeps = record {
   few_depth_lines = is.few_depth_lines;
   default_depth = is.default_depth;
   shots_line = ap (λ n. n + 1) (none_yet map.shots_lines keeps.count);
+  limit = is.limit;
 }
+
+-- a line that says how many blocks there may be is the first of its kind, and comes before all blocks
+pub record IsFirstLimit (map : MapView) : Type 0 where
+  pub no_line : map.limit_lines ≡ 0
+  pub no_block : length map.blocks ≡ 0
+
+pub first-limit : (map : MapView) → (map.limit_lines == 0 && length map.blocks == 0) ≡ true → IsFirstLimit map
+first-limit map h =
+    let parts = and_parts (map.limit_lines == 0) (length map.blocks == 0) h in
+    record { no_line = none_yet map.limit_lines parts.0; no_block = none_yet (length map.blocks) parts.1 }
+
+pub with_limit-is_map : (map : MapView) (most : ℕ) → IsMap map → IsBlockLimit most → KeepsAll map (Blocks most) → IsMap (with_limit map most)
+with_limit-is_map map most is range keeps =
+    let first = first-limit map keeps.count in
+    record {
+      is_box = is.is_box;
+      lo = is.lo;
+      hi = is.hi;
+      wide = is.wide;
+      blocks = is.blocks;
+      few_blocks = omega (arith, first.no_block);
+      spawns = is.spawns;
+      few_spawns = is.few_spawns;
+      things = is.things;
+      few_items = is.few_items;
+      few_teleporters = is.few_teleporters;
+      few_goals = is.few_goals;
+      few_lifts = is.few_lifts;
+      clear_shafts = is.clear_shafts;
+      shafts_apart = is.shafts_apart;
+      depth = is.depth;
+      few_depth_lines = is.few_depth_lines;
+      default_depth = is.default_depth;
+      shots_line = is.shots_line;
+      limit = record {
+        range = range;
+        few_lines = omega (arith, first.no_line);
+        default = λ none. absurd (omega (arith, none));
+        first = omega (arith, first.no_block, is.limit.first);
+      };
+    }
 
 -- ---- any line
 
@@ -347,3 +400,4 @@ with_line-is_map map (Goal lo hi) is near none = with_thing-is_map map (Goal lo 
 with_line-is_map map (Lift lo hi rise speed) is near none = with_thing-is_map map (Lift lo hi rise speed) is refl near (keeps_all map (Lift lo hi rise speed) none)
 with_line-is_map map (Depth depth) is near none = with_depth-is_map map depth is near (keeps_all map (Depth depth) none)
 with_line-is_map map Shots is near none = with_shots-is_map map is (keeps_all map Shots none)
+with_line-is_map map (Blocks most) is near none = with_limit-is_map map most is near (keeps_all map (Blocks most) none)

@@ -7,7 +7,7 @@ use Rattle.arena_geo.specs.Bounds.{Bounds, bounds}
 use Rattle.arena_geo.specs.Boxes.{contains_on, contains}
 use Rattle.arena_map.specs.declared.lift.Lift as lifts
 use Rattle.arena_map.specs.declared.map_line.MapLine.{MapLine}
-use Rattle.arena_map.specs.declared.map_line.MapLine.TheVariants.{Arena, Block, Spawn, Item, Teleport, Goal, Lift, Depth, Shots}
+use Rattle.arena_map.specs.declared.map_line.MapLine.TheVariants.{Arena, Block, Spawn, Item, Teleport, Goal, Lift, Depth, Shots, Blocks}
 use Rattle.arena_map.specs.Positions.{is_thick, box_at_the_top}
 use Rattle.arena_map.specs.Things.{lift_data}
 use Rattle.arena_map.specs.Maps.{MapView, IsThingInside, IsLift, IsMap}
@@ -66,6 +66,7 @@ lift-is_lift map (Teleport lo hi dest) is inside = tt
 lift-is_lift map (Goal lo hi) is inside = tt
 lift-is_lift map (Depth depth) is inside = tt
 lift-is_lift map Shots is inside = tt
+lift-is_lift map (Blocks most) is inside = tt
 
 -- ---- a lift on its way
 

@@ -9,7 +9,7 @@ use Rattle.arena_geo.proofs.Vectors.{plus-zero_vector}
 use Rattle.entity_recs.specs.declared.kind.Kind.{Kind}
 use Rattle.entity_recs.specs.declared.kind.Kind.TheVariants as kinds
 use Rattle.arena_map.specs.declared.map_line.MapLine.{MapLine}
-use Rattle.arena_map.specs.declared.map_line.MapLine.TheVariants.{Arena, Block, Spawn, Item, Teleport, Goal, Lift, Depth, Shots}
+use Rattle.arena_map.specs.declared.map_line.MapLine.TheVariants.{Arena, Block, Spawn, Item, Teleport, Goal, Lift, Depth, Shots, Blocks}
 use Rattle.arena_map.specs.Things.{record_of, records_from, dest_in, delay_in, lift_data}
 use Rattle.arena_map.specs.Maps.{MapView, entities_of, thing_of}
 use Rattle.arena_map.specs.LineThings.{IsThingBetween, HasThing, HasOnly, item_end, GivesAs, PutsThingsLast, LinesGiveTheirThings}
@@ -129,6 +129,7 @@ gives map place (Block lo hi) at = tt
 gives map place (Spawn to) at = tt
 gives map place (Depth depth) at = tt
 gives map place Shots at = tt
+gives map place (Blocks most) at = tt
 gives map place (Item to kind delay) at =
     (thing-at map place (Item to kind delay) at kind to (item_end to) (item-between (64 + place) delay kind to), data-of map place (Item to kind delay) at)
 gives map place (Teleport lo hi dest) at =
@@ -168,6 +169,7 @@ puts-last map (Goal lo hi) = record { thing = λ e. refl; other = λ e. cc }
 puts-last map (Lift lo hi rise speed) = record { thing = λ e. refl; other = λ e. cc }
 puts-last map (Depth depth) = record { thing = λ e. cc; other = λ e. refl }
 puts-last map Shots = record { thing = λ e. cc; other = λ e. refl }
+puts-last map (Blocks most) = record { thing = λ e. cc; other = λ e. refl }
 
 pub lines_give_their_things : LinesGiveTheirThings
 lines_give_their_things =

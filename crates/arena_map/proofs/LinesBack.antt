@@ -14,11 +14,12 @@ use Rattle.edge_io.proofs.FieldTexts.{AreAbove, IsEnd, decimal_above, signed_abo
 use Rattle.entity_recs.specs.Kinds.{is_item}
 use Rattle.areanode.specs.declared.sizes.TheConstants.{LEAST_DEPTH, MOST_DEPTH}
 use Rattle.areanode.specs.Trees.{IsTreeDepth}
+use Rattle.arena_map.specs.declared.limits.TheConstants.{DEFAULT_BLOCKS, MOST_BLOCKS}
 use Rattle.arena_map.specs.declared.map_line.MapLine.{MapLine}
-use Rattle.arena_map.specs.declared.map_line.MapLine.TheVariants.{Arena, Block, Spawn, Item, Teleport, Goal, Lift, Depth, Shots}
+use Rattle.arena_map.specs.declared.map_line.MapLine.TheVariants.{Arena, Block, Spawn, Item, Teleport, Goal, Lift, Depth, Shots, Blocks}
 use Rattle.arena_map.specs.declared.map_word.MapWord.{MapWord}
 use Rattle.arena_map.specs.declared.map_word.MapWord.TheVariants as words
-use Rattle.arena_map.specs.MapLines.{IsWithinLimits}
+use Rattle.arena_map.specs.MapLines.{IsWithinLimits, IsBlockLimit}
 use Rattle.arena_map.specs.Words.{word_text, map_word, kind_text, item_kind}
 use Rattle.arena_map.specs.Reading.{coordinate_at, point_at, above_zero, count_at, kind_at, line_at_end, corners_at, at_least, number_between, line_within, line_of_word, line_of_first, map_line_of}
 use Rattle.arena_map.specs.Spelling.{word_of, point_text, fields_text, map_line_text}
@@ -162,6 +163,12 @@ depth-back depth range =
     ap (line_within words.Depth) (sym (append-nil (field_text (decimal depth))))
     ∙ ap Line (between-back LEAST_DEPTH MOST_DEPTH depth [] range.least range.most (omega arith) tt)
 
+blocks-back : (most : ℕ) → IsBlockLimit most → line_within words.Blocks (fields_text (Blocks most)) ≡ Some (Blocks most)
+blocks-back most range =
+    let Line : Option (ℕ × List ℕ) → Option MapLine = λ o. o >>= (λ m. line_at_end (Blocks m.0) m.1) in
+    ap (line_within words.Blocks) (sym (append-nil (field_text (decimal most))))
+    ∙ ap Line (between-back DEFAULT_BLOCKS MOST_BLOCKS most [] range.least range.most (omega arith) tt)
+
 within-back : (l : MapLine) → IsWithinLimits l → line_within (word_of l) (fields_text l) ≡ Some l
 within-back (Arena lo hi) limits =
     let Line : Option (Vec3 × Vec3 × List ℕ) → Option MapLine = λ o. o >>= (λ c. line_at_end (Arena c.0 c.1) c.2) in
@@ -180,6 +187,7 @@ within-back (Goal lo hi) limits =
 within-back (Lift lo hi rise speed) limits = lift-back lo hi rise speed limits
 within-back (Depth depth) limits = depth-back depth limits
 within-back Shots limits = refl
+within-back (Blocks most) limits = blocks-back most limits
 
 -- ---- the whole line
 
@@ -193,6 +201,7 @@ word-above words.Goal = search rules
 word-above words.Lift = search rules
 word-above words.Depth = search rules
 word-above words.Shots = search rules
+word-above words.Blocks = search rules
 
 pub map_word-back : (word : MapWord) → map_word (word_text word) ≡ Some word
 map_word-back words.Arena = refl
@@ -204,6 +213,7 @@ map_word-back words.Goal = refl
 map_word-back words.Lift = refl
 map_word-back words.Depth = refl
 map_word-back words.Shots = refl
+map_word-back words.Blocks = refl
 
 -- the fields begin with a space
 fields-end : (l : MapLine) → IsEnd (fields_text l)
@@ -216,6 +226,7 @@ fields-end (Goal lo hi) = refl
 fields-end (Lift lo hi rise speed) = refl
 fields-end (Depth depth) = refl
 fields-end Shots = tt
+fields-end (Blocks most) = refl
 
 word-back : (word : MapWord) (rest : List ℕ) (l : MapLine) → line_within word rest ≡ Some l → line_of_word word rest ≡ Ok l
 word-back word rest l h =

@@ -15,15 +15,16 @@ use Rattle.edge_io.proofs.Decimals.{natural-spelled, integer-spelled, integer-fo
 use Rattle.edge_io.proofs.FieldTexts.{cut-whole, field_at-whole}
 use Rattle.entity_recs.specs.Kinds.{is_item}
 use Rattle.areanode.specs.declared.sizes.TheConstants.{LEAST_DEPTH, MOST_DEPTH}
+use Rattle.arena_map.specs.declared.limits.TheConstants.{DEFAULT_BLOCKS, MOST_BLOCKS}
 use Rattle.arena_map.specs.declared.map_line.MapLine.{MapLine}
-use Rattle.arena_map.specs.declared.map_line.MapLine.TheVariants.{Arena, Block, Spawn, Item, Teleport, Goal, Lift, Depth, Shots}
+use Rattle.arena_map.specs.declared.map_line.MapLine.TheVariants.{Arena, Block, Spawn, Item, Teleport, Goal, Lift, Depth, Shots, Blocks}
 use Rattle.arena_map.specs.declared.map_word.MapWord.{MapWord}
 use Rattle.arena_map.specs.declared.map_word.MapWord.TheVariants as words
 use Rattle.arena_map.specs.declared.map_word.MapField.{MapField}
 use Rattle.arena_map.specs.declared.map_word.MapField.TheVariants.{Number, ItemKind}
 use Rattle.arena_map.specs.MapLines.{IsWithinLimits}
 use Rattle.arena_map.specs.Words.{word_text, map_word, kind_text, item_kind, numbers, fields_of}
-use Rattle.arena_map.specs.Reading.{is_field_first, has_fields, coordinate_at, point_at, above_zero, count_at, kind_at, at_least, number_between, depth_in, line_at_end, corners_at, arena_in, block_in, spawn_in, item_in, teleport_in, goal_in, lift_in, line_within, line_of_word, line_of_first, map_line_of}
+use Rattle.arena_map.specs.Reading.{is_field_first, has_fields, coordinate_at, point_at, above_zero, count_at, kind_at, at_least, number_between, depth_in, blocks_in, line_at_end, corners_at, arena_in, block_in, spawn_in, item_in, teleport_in, goal_in, lift_in, line_within, line_of_word, line_of_first, map_line_of}
 use Rattle.arena_map.specs.Spelling.{word_of, point_text, fields_text, map_line_text}
 
 -- ---- steps
@@ -250,6 +251,13 @@ depth-read rest l h =
     let limits : IsWithinLimits (Depth d.at.0) = record { least = read.0; most = read.1 } in
     alone-read words.Depth (Depth d.at.0) l rest d.at.1 refl limits read.2 d.gives
 
+blocks-read : (rest : List ℕ) (l : MapLine) → blocks_in rest ≡ Some l → ReadsLine words.Blocks rest l
+blocks-read rest l h =
+    let m = binds (number_between DEFAULT_BLOCKS MOST_BLOCKS rest) _ l h in
+    let read = between-read DEFAULT_BLOCKS MOST_BLOCKS rest m.at (omega arith) m.is in
+    let limits : IsWithinLimits (Blocks m.at.0) = record { least = read.0; most = read.1 } in
+    alone-read words.Blocks (Blocks m.at.0) l rest m.at.1 refl limits read.2 m.gives
+
 int-least : (n : ℕ) → 1 ≤ n → pos 1 ≤ℤ pos n
 int-least n h = omega (arith, ints, h)
 
@@ -285,6 +293,7 @@ within-read words.Teleport rest l h = teleport-read rest l h
 within-read words.Goal rest l h = goal-read rest l h
 within-read words.Lift rest l h = lift-read rest l h
 within-read words.Depth rest l h = depth-read rest l h
+within-read words.Blocks rest l h = blocks-read rest l h
 within-read words.Shots rest l h = alone-read words.Shots Shots l rest rest refl tt (record { spelled = refl; form = λ more. refl }) h
 
 -- what is read has the form of its word
@@ -318,7 +327,8 @@ word-spelled text v =
     word-choice text words.Goal v _ (
     word-choice text words.Lift v _ (
     word-choice text words.Depth v _ (
-    word-choice text words.Shots v _ (no-word text v)))))))))
+    word-choice text words.Shots v _ (
+    word-choice text words.Blocks v _ (no-word text v))))))))))
 
 -- ---- the whole line
 

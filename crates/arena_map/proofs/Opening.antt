@@ -13,7 +13,7 @@ use Rattle.entity_recs.specs.Records.{IsMapId}
 use Rattle.entity_recs.specs.Kinds.{is_item}
 use Rattle.arena_map.specs.declared.lift.Lift as lifts
 use Rattle.arena_map.specs.declared.map_line.MapLine.{MapLine}
-use Rattle.arena_map.specs.declared.map_line.MapLine.TheVariants.{Arena, Block, Spawn, Item, Teleport, Goal, Lift, Depth, Shots}
+use Rattle.arena_map.specs.declared.map_line.MapLine.TheVariants.{Arena, Block, Spawn, Item, Teleport, Goal, Lift, Depth, Shots, Blocks}
 use Rattle.arena_map.specs.Things.{record_of, records_from, lift_data}
 use Rattle.arena_map.specs.Maps.{MapView, entities_of, lift_of, IsThingInside, IsMap}
 use Rattle.arena_map.specs.Validity.{IsAsItsLine, IsThing, IsPlayerState, IsPlayerStateOn, IsStateOn, IsValidRecord}
@@ -96,6 +96,7 @@ at-start arena id (Block lo hi) inside = let no = inside.thing in cc
 at-start arena id (Spawn at) inside = let no = inside.thing in cc
 at-start arena id (Depth depth) inside = let no = inside.thing in cc
 at-start arena id Shots inside = let no = inside.thing in cc
+at-start arena id (Blocks most) inside = let no = inside.thing in cc
 
 item-state : (map : MapView) (kind : Kind) → is_item kind ≡ true → IsStateOn map kind 0
 item-state map kinds.Ammo h = tt
@@ -112,6 +113,7 @@ state-at-start map id (Block lo hi) inside = let no = inside.thing in cc
 state-at-start map id (Spawn at) inside = let no = inside.thing in cc
 state-at-start map id (Depth depth) inside = let no = inside.thing in cc
 state-at-start map id Shots inside = let no = inside.thing in cc
+state-at-start map id (Blocks most) inside = let no = inside.thing in cc
 
 no-player : (kind : Kind) → is_item kind ≡ true → kind ≡ kinds.Player → ⊥
 no-player kind h e = let P : Kind → Type 0 = λ k. is_item k ≡ true in let no : is_item kinds.Player ≡ true = subst P e h in cc
@@ -126,6 +128,7 @@ player-at-start arena id (Block lo hi) inside e = let no = inside.thing in cc
 player-at-start arena id (Spawn at) inside e = let no = inside.thing in cc
 player-at-start arena id (Depth depth) inside e = let no = inside.thing in cc
 player-at-start arena id Shots inside e = let no = inside.thing in cc
+player-at-start arena id (Blocks most) inside e = let no = inside.thing in cc
 
 valid-at-start : (map : MapView) (id : ℕ) (thing : Rec) → IsMap map → IsFound map.bounds 64 map.things id thing → IsValidRecord map id thing
 valid-at-start map id thing is found =

@@ -13,7 +13,7 @@ use Rattle.entity_recs.specs.Records.{IsIdOf}
 use Rattle.entity_recs.specs.Kinds.{is_item}
 use Rattle.arena_map.specs.declared.lift.Lift as lifts
 use Rattle.arena_map.specs.declared.map_line.MapLine.{MapLine}
-use Rattle.arena_map.specs.declared.map_line.MapLine.TheVariants.{Arena, Block, Spawn, Item, Teleport, Goal, Lift, Depth, Shots}
+use Rattle.arena_map.specs.declared.map_line.MapLine.TheVariants.{Arena, Block, Spawn, Item, Teleport, Goal, Lift, Depth, Shots, Blocks}
 use Rattle.arena_map.specs.MapLines.{is_thing_line, is_teleporter, is_lift}
 use Rattle.arena_map.specs.Things.{record_of, records_from, dest_in, delay_in, lift_data}
 use Rattle.arena_map.specs.Maps.{MapView, entities_of, thing_of, dest_of, delay_of, lift_of, has_thing, IsThingInside, IsMap}
@@ -86,6 +86,7 @@ data-of arena id (Block lo hi) inside = let no = inside.thing in cc
 data-of arena id (Spawn at) inside = let no = inside.thing in cc
 data-of arena id (Depth depth) inside = let no = inside.thing in cc
 data-of arena id Shots inside = let no = inside.thing in cc
+data-of arena id (Blocks most) inside = let no = inside.thing in cc
 
 pub data_follow_kinds : DataFollowKinds
 data_follow_kinds map id is = by (find (λ t. t.id == id) (entities_of map)) refl

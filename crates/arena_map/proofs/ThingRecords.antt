@@ -17,7 +17,7 @@ use Rattle.entity_recs.specs.declared.rec.Rec.{Rec}
 use Rattle.entity_recs.specs.Records.{IsMapId, IsAboveZero, IsMapBox, IsRecord}
 use Rattle.entity_recs.specs.Kinds.{is_item}
 use Rattle.arena_map.specs.declared.map_line.MapLine.{MapLine}
-use Rattle.arena_map.specs.declared.map_line.MapLine.TheVariants.{Arena, Block, Spawn, Item, Teleport, Goal, Lift, Depth, Shots}
+use Rattle.arena_map.specs.declared.map_line.MapLine.TheVariants.{Arena, Block, Spawn, Item, Teleport, Goal, Lift, Depth, Shots, Blocks}
 use Rattle.arena_map.specs.MapLines.{is_thing_line}
 use Rattle.arena_map.specs.Positions.{is_thick}
 use Rattle.arena_map.specs.Things.{record_of, records_from}
@@ -109,6 +109,7 @@ thing-is_record arena id (Block lo hi) own inside = let no = inside.thing in cc
 thing-is_record arena id (Spawn at) own inside = let no = inside.thing in cc
 thing-is_record arena id (Depth depth) own inside = let no = inside.thing in cc
 thing-is_record arena id Shots own inside = let no = inside.thing in cc
+thing-is_record arena id (Blocks most) own inside = let no = inside.thing in cc
 
 records-are : (arena : Bounds) (first : ℕ) (things : List MapLine) → 64 ≤ first → first + length things ≤ IDS → AllByRecursion (IsThingInside arena) things
     → AllByRecursion IsRecord (records_from first things)

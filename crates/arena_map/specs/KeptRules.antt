@@ -2,7 +2,7 @@
 use Rattle.std.specs.Prelude.{◌≡◌, ⊤, ◌<◌, ◌≤◌, Bool, true, false, length, count_by, All, AllPairs}
 use Rattle.arena_geo.specs.Bounds.{Bounds}
 use Rattle.arena_geo.specs.Boxes.{overlaps, is_blocked}
-use Rattle.arena_map.specs.declared.limits.TheConstants.{MOST_BLOCKS, MOST_BOXES, MOST_ITEMS, MOST_SPAWNS}
+use Rattle.arena_map.specs.declared.limits.TheConstants.{MOST_BOXES, MOST_ITEMS, MOST_SPAWNS}
 use Rattle.arena_map.specs.declared.map_fault.MapFault.{MapFault}
 use Rattle.arena_map.specs.declared.map_fault.MapFault.TheVariants as fault
 use Rattle.arena_map.specs.declared.map_line.MapLine.{MapLine}
@@ -16,9 +16,10 @@ use Rattle.arena_map.specs.Maps.{MapView, shafts_of}
 abbrev pub AllThings : (Bounds → MapLine → Bool) → MapView → Type 0
 AllThings test map = All (λ line. test map.bounds line ≡ true) map.things
 
--- the map has no more of each kind than it may, and at most one line of each setting
+-- the map has no more of each kind than it may, at most one line of each setting, and no block before the line that says
+-- how many there may be
 pub record HasFew (map : MapView) : Type 0 where
-  pub blocks : length map.blocks ≤ MOST_BLOCKS
+  pub blocks : length map.blocks ≤ map.most_blocks
   pub spawns : length map.spawns ≤ MOST_SPAWNS
   pub items : count_by is_item_line map.things ≤ MOST_ITEMS
   pub teleporters : count_by is_teleport_line map.things ≤ MOST_BOXES
@@ -26,6 +27,8 @@ pub record HasFew (map : MapView) : Type 0 where
   pub lifts : count_by is_lift_line map.things ≤ MOST_BOXES
   pub depth_lines : map.depth_lines ≤ 1
   pub shots_lines : map.shots_lines ≤ 1
+  pub limit_lines : map.limit_lines ≤ 1
+  pub early_blocks : map.early_blocks ≡ 0
 
 -- no lift's shaft overlaps a block or another shaft
 pub record HasClearShafts (map : MapView) : Type 0 where

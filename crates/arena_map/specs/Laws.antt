@@ -12,7 +12,7 @@ use Rattle.entity_recs.specs.Bodies.{body_of}
 use Rattle.entity_recs.specs.Kinds.{is_item}
 use Rattle.arena_map.specs.declared.lift.Lift.{Lift}
 use Rattle.arena_map.specs.declared.limits.TheConstants.{MOST_BLOCKS, MOST_SPAWNS, MOST_ITEMS, MOST_BOXES, MOST_THINGS}
-use Rattle.arena_map.specs.declared.limits.TheConstants.{DEFAULT_DEPTH}
+use Rattle.arena_map.specs.declared.limits.TheConstants.{DEFAULT_BLOCKS, DEFAULT_DEPTH}
 use Rattle.arena_map.specs.declared.map_fault.MapFault.{MapFault}
 use Rattle.arena_map.specs.declared.map_line.MapLine.{MapLine}
 use Rattle.arena_map.specs.declared.map_word.MapField.{MapField}
@@ -98,9 +98,10 @@ LiftsStayInside =
     (map : MapView) (id : ℕ) (lift : Lift) (thing r : Rec) → IsMap map → lift_of map id ≡ Some lift
     → find (λ thing. thing.id == id) (entities_of map) ≡ Some thing → IsSameLift lift thing r → IsLiftInside map r
 
--- how much a map may have, and how deep its tree is where no line says so, in numbers
+-- how much a map may have, how many blocks where no line says that, and how deep its tree is where none says so, in numbers
 pub record LimitsAreKnown : Type 0 where
-  pub blocks : MOST_BLOCKS ≡ 1024
+  pub blocks : MOST_BLOCKS ≡ 4096
+  pub default_blocks : DEFAULT_BLOCKS ≡ 1024
   pub spawns : MOST_SPAWNS ≡ 64
   pub items : MOST_ITEMS ≡ 400
   pub boxes : MOST_BOXES ≡ 16

@@ -10,7 +10,7 @@ use Rattle.entity_recs.specs.declared.rec.Rec.{Rec}
 use Rattle.entity_recs.specs.Bodies.{body_of}
 use Rattle.arena_map.specs.declared.lift.Lift as lifts
 use Rattle.arena_map.specs.declared.map_line.MapLine.{MapLine}
-use Rattle.arena_map.specs.declared.map_line.MapLine.TheVariants.{Arena, Block, Spawn, Item, Teleport, Goal, Lift, Depth, Shots}
+use Rattle.arena_map.specs.declared.map_line.MapLine.TheVariants.{Arena, Block, Spawn, Item, Teleport, Goal, Lift, Depth, Shots, Blocks}
 use Rattle.arena_map.specs.MapLines.{is_thing_line}
 use Rattle.arena_map.specs.Maps.{MapView, entities_of, dest_of, delay_of, lift_of}
 use Rattle.arena_map.specs.Rules.{with_line}
@@ -70,6 +70,7 @@ GivesAs map place id (Lift lo hi rise speed) =
     × HasOnly map id None None (Some (record { low = lo.z; rise = rise; speed = speed }))
 GivesAs map place id (Depth depth) = ⊤
 GivesAs map place id Shots = ⊤
+GivesAs map place id (Blocks most) = ⊤
 
 -- the line of a thing is put after those that the map has, and no other line changes them
 pub record PutsThingsLast (map : MapView) (line : MapLine) : Type 0 where

@@ -1,12 +1,13 @@
 -- The limits of the numbers of a map line, and what kinds of lines there are.
-use Rattle.std.specs.Prelude.{◌≡◌, ⊤, ◌≤◌, Bool, true, false, not, pos, ◌≤ℤ◌}
+use Rattle.std.specs.Prelude.{◌≡◌, ⊤, ℕ, ◌≤◌, Bool, true, false, not, pos, ◌≤ℤ◌}
 use Rattle.arena_geo.specs.Vectors.{IsNear}
 use Rattle.areanode.specs.Trees.{IsTreeDepth}
 use Rattle.entity_recs.specs.declared.kind.Kind.{Kind}
 use Rattle.entity_recs.specs.declared.kind.Kind.TheVariants as kinds
 use Rattle.entity_recs.specs.Kinds.{is_item}
+use Rattle.arena_map.specs.declared.limits.TheConstants.{DEFAULT_BLOCKS, MOST_BLOCKS}
 use Rattle.arena_map.specs.declared.map_line.MapLine.{MapLine}
-use Rattle.arena_map.specs.declared.map_line.MapLine.TheVariants.{Arena, Block, Spawn, Item, Teleport, Goal, Lift, Depth, Shots}
+use Rattle.arena_map.specs.declared.map_line.MapLine.TheVariants.{Arena, Block, Spawn, Item, Teleport, Goal, Lift, Depth, Shots, Blocks}
 
 -- the kind is a teleporter's
 abbrev pub is_teleporter : Kind → Bool
@@ -17,6 +18,11 @@ is_teleporter _ = false
 abbrev pub is_lift : Kind → Bool
 is_lift kinds.Lift = true
 is_lift _ = false
+
+-- a line may allow so many blocks
+pub record IsBlockLimit (blocks : ℕ) : Type 0 where
+  pub least : DEFAULT_BLOCKS ≤ blocks
+  pub most : blocks ≤ MOST_BLOCKS
 
 -- the numbers of a line are within their limits, and an item's kind is one
 abbrev pub IsWithinLimits : MapLine → Type 0
@@ -31,6 +37,7 @@ IsWithinLimits (Lift lo hi rise speed) =
     × (speed ≤ℤ pos 2560)
 IsWithinLimits (Depth depth) = IsTreeDepth depth
 IsWithinLimits Shots = ⊤
+IsWithinLimits (Blocks most) = IsBlockLimit most
 
 -- the line is that of the arena, with which a map begins
 abbrev pub is_arena : MapLine → Bool
@@ -68,4 +75,5 @@ is_thing_line (Block lo hi) = false
 is_thing_line (Spawn at) = false
 is_thing_line (Depth depth) = false
 is_thing_line Shots = false
+is_thing_line (Blocks most) = false
 is_thing_line _ = true

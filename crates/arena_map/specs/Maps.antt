@@ -13,21 +13,23 @@ use Rattle.areanode.specs.Trees.{IsTreeDepth}
 use Rattle.box_trace.specs.Walls.{walls_of}
 use Rattle.entity_recs.specs.declared.kind.Kind.{Kind}
 use Rattle.entity_recs.specs.declared.rec.Rec.{Rec}
-use Rattle.arena_map.specs.declared.limits.TheConstants.{DEFAULT_DEPTH, MOST_BLOCKS, MOST_BOXES, MOST_ITEMS}
+use Rattle.arena_map.specs.declared.limits.TheConstants.{DEFAULT_BLOCKS, DEFAULT_DEPTH, MOST_BOXES, MOST_ITEMS}
 use Rattle.arena_map.specs.declared.limits.TheConstants.{MOST_SPAWNS}
 use Rattle.arena_map.specs.declared.settings.Settings.{Settings}
 use Rattle.arena_map.specs.declared.lift.Lift.{Lift}
 use Rattle.arena_map.specs.declared.map_line.MapLine.{MapLine}
-use Rattle.arena_map.specs.MapLines.{IsWithinLimits, is_thing_line, is_item_line, is_teleport_line, is_goal_line}
+use Rattle.arena_map.specs.MapLines.{IsWithinLimits, IsBlockLimit, is_thing_line, is_item_line, is_teleport_line, is_goal_line}
 use Rattle.arena_map.specs.MapLines.{is_lift_line}
 use Rattle.arena_map.specs.Positions.{is_wide, is_thick, is_player_inside, shaft_of, keeps_box, keeps_stand, keeps_item}
 use Rattle.arena_map.specs.Positions.{keeps_travel}
 use Rattle.arena_map.specs.Things.{records_from, dest_in, delay_in, lift_data}
 
 -- the arena, the blocks, the spawns, and the lines of items, teleporters, goals and lifts; how deep the tree of areanodes
--- is and how many lines name that; whether players can shoot and how many lines say so
+-- is and how many lines name that; whether players can shoot and how many lines say so; how many blocks there may be, how
+-- many lines say that, and how many blocks come before such a line
 -- Things are their lines: records, ids and data are computed from them, so an id is 64 plus the place by definition.
--- The lines of the settings are counted, so that a second one breaks rule 3 like any other line too many.
+-- The lines of the settings are counted, so that a second one breaks rule 3 like any other line too many, and so does one
+-- on blocks that comes after a block.
 pub record MapView : Type 0 where
   pub bounds : Bounds
   pub blocks : List Bounds
@@ -37,6 +39,9 @@ pub record MapView : Type 0 where
   pub depth_lines : ℕ
   pub shots : Bool
   pub shots_lines : ℕ
+  pub most_blocks : ℕ
+  pub limit_lines : ℕ
+  pub early_blocks : ℕ
 
 -- the map with these parts and settings
 abbrev pub map_of : Bounds → List Bounds → List Vec3 → List MapLine → Settings → MapView
@@ -49,12 +54,24 @@ map_of bounds blocks spawns things settings = record {
   depth_lines = cond settings.names_depth 1 0;
   shots = settings.shots;
   shots_lines = cond settings.shots 1 0;
+  most_blocks = settings.most_blocks;
+  limit_lines = cond settings.names_blocks 1 0;
+  early_blocks = 0;
 }
 
--- the map with these parts, where no line names a depth or lets players shoot
+-- the settings of a map whose lines say nothing of them
+abbrev pub no_settings : Settings
+no_settings = record {
+  depth = DEFAULT_DEPTH;
+  names_depth = false;
+  shots = false;
+  most_blocks = DEFAULT_BLOCKS;
+  names_blocks = false;
+}
+
+-- the map with these parts, where no line names a depth, lets players shoot or says how many blocks there may be
 abbrev pub plain_map : Bounds → List Bounds → List Vec3 → List MapLine → MapView
-plain_map bounds blocks spawns things =
-    map_of bounds blocks spawns things (record { depth = DEFAULT_DEPTH; names_depth = false; shots = false })
+plain_map bounds blocks spawns things = map_of bounds blocks spawns things no_settings
 
 -- ---- what a map gives
 
@@ -131,6 +148,14 @@ pub record IsDelay (frames : ℕ) : Type 0 where
   pub least : 1 ≤ frames
   pub most : frames ≤ 65535
 
+-- a map may have so many blocks, so many lines say that, and so many blocks come before such a line: a line may allow so
+-- many, at most one line says it, and before all blocks, and where none says it, it is as without such a line
+pub record IsLimit (most lines early : ℕ) : Type 0 where
+  pub range : IsBlockLimit most
+  pub few_lines : lines ≤ 1
+  pub default : lines ≡ 0 → most ≡ DEFAULT_BLOCKS
+  pub first : early ≡ 0
+
 -- the map keeps the rules
 pub record IsMap (map : MapView) : Type 0 where
   pub is_box : IsBox map.bounds
@@ -138,7 +163,7 @@ pub record IsMap (map : MapView) : Type 0 where
   pub hi : IsNear 1048576 map.bounds.hi
   pub wide : is_wide map.bounds.lo map.bounds.hi ≡ true
   pub blocks : All (IsBlock map.bounds) map.blocks
-  pub few_blocks : length map.blocks ≤ MOST_BLOCKS
+  pub few_blocks : length map.blocks ≤ map.most_blocks
   pub spawns : All (IsSpawn map.bounds) map.spawns
   pub few_spawns : length map.spawns ≤ MOST_SPAWNS
   pub things : All (IsThingInside map.bounds) map.things
@@ -152,6 +177,7 @@ pub record IsMap (map : MapView) : Type 0 where
   pub few_depth_lines : map.depth_lines ≤ 1
   pub default_depth : map.depth_lines ≡ 0 → map.depth ≡ DEFAULT_DEPTH
   pub shots_line : map.shots_lines ≡ cond map.shots 1 0
+  pub limit : IsLimit map.most_blocks map.limit_lines map.early_blocks
 
 -- a map is kept as its bounds, its solids, its spawns, the lines of its things, the records that these give, the shafts of
 -- its lifts, and its settings: the blocks are the solids after the six walls

@@ -7,7 +7,7 @@ use Rattle.arena_geo.specs.Boxes.{contains, box_moved_by}
 use Rattle.entity_recs.specs.declared.bodies.TheConstants.{ITEM_MINS, ITEM_MAXS}
 use Rattle.entity_recs.specs.Bodies.{box_at_origin, player_body}
 use Rattle.arena_map.specs.declared.map_line.MapLine.{MapLine}
-use Rattle.arena_map.specs.declared.map_line.MapLine.TheVariants.{Arena, Block, Spawn, Item, Teleport, Goal, Lift, Depth, Shots}
+use Rattle.arena_map.specs.declared.map_line.MapLine.TheVariants.{Arena, Block, Spawn, Item, Teleport, Goal, Lift, Depth, Shots, Blocks}
 
 -- a side is at least 32,768 long
 abbrev pub is_long : ℤ → ℤ → Bool
@@ -67,6 +67,7 @@ keeps_box arena (Goal lo hi) = is_box_inside arena lo hi
 keeps_box arena (Lift lo hi rise speed) = is_box_inside arena lo hi
 keeps_box arena (Depth depth) = true
 keeps_box arena Shots = true
+keeps_box arena (Blocks most) = true
 
 -- rule 4: a player at the spawn or the destination is inside the arena
 abbrev pub keeps_stand : Bounds → MapLine → Bool

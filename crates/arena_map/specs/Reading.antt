@@ -8,8 +8,9 @@ use Rattle.entity_recs.specs.declared.kind.Kind.{Kind}
 use Rattle.areanode.specs.declared.sizes.TheConstants.{LEAST_DEPTH, MOST_DEPTH}
 use Rattle.edge_io.specs.Numbers.{natural_up_to, integer_up_to, is_integer}
 use Rattle.edge_io.specs.Fields.{◌>>=◌, cut, field_at}
+use Rattle.arena_map.specs.declared.limits.TheConstants.{DEFAULT_BLOCKS, MOST_BLOCKS}
 use Rattle.arena_map.specs.declared.map_line.MapLine.{MapLine}
-use Rattle.arena_map.specs.declared.map_line.MapLine.TheVariants.{Arena, Block, Spawn, Item, Teleport, Goal, Lift, Depth, Shots}
+use Rattle.arena_map.specs.declared.map_line.MapLine.TheVariants.{Arena, Block, Spawn, Item, Teleport, Goal, Lift, Depth, Shots, Blocks}
 use Rattle.arena_map.specs.declared.map_word.MapWord.{MapWord}
 use Rattle.arena_map.specs.declared.map_word.MapWord.TheVariants as words
 use Rattle.arena_map.specs.declared.map_word.MapField.{MapField}
@@ -148,6 +149,12 @@ depth_in rest = do
   depth ← number_between LEAST_DEPTH MOST_DEPTH rest
   line_at_end (Depth depth.0) depth.1
 
+-- how many blocks there may be: 1,024 to 4,096
+abbrev pub blocks_in : List ℕ → Option MapLine
+blocks_in rest = do
+  most ← number_between DEFAULT_BLOCKS MOST_BLOCKS rest
+  line_at_end (Blocks most.0) most.1
+
 -- the line with these fields, each number within its limit
 abbrev pub line_within : MapWord → List ℕ → Option MapLine
 line_within words.Arena rest = arena_in rest
@@ -159,6 +166,7 @@ line_within words.Goal rest = goal_in rest
 line_within words.Lift rest = lift_in rest
 line_within words.Depth rest = depth_in rest
 line_within words.Shots rest = line_at_end Shots rest
+line_within words.Blocks rest = blocks_in rest
 
 -- ---- the line
 

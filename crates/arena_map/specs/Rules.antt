@@ -5,11 +5,11 @@ use Rattle.std.specs.List.{list_any}
 use Rattle.arena_geo.specs.declared.vec3.Vec3.{Vec3}
 use Rattle.arena_geo.specs.Bounds.{Bounds, bounds}
 use Rattle.arena_geo.specs.Boxes.{overlaps, is_blocked}
-use Rattle.arena_map.specs.declared.limits.TheConstants.{MOST_BLOCKS, MOST_BOXES, MOST_ITEMS, MOST_SPAWNS}
+use Rattle.arena_map.specs.declared.limits.TheConstants.{MOST_BOXES, MOST_ITEMS, MOST_SPAWNS}
 use Rattle.arena_map.specs.declared.map_fault.MapFault.{MapFault}
 use Rattle.arena_map.specs.declared.map_fault.MapFault.TheVariants as fault
 use Rattle.arena_map.specs.declared.map_line.MapLine.{MapLine}
-use Rattle.arena_map.specs.declared.map_line.MapLine.TheVariants.{Arena, Block, Spawn, Item, Teleport, Goal, Lift, Depth, Shots}
+use Rattle.arena_map.specs.declared.map_line.MapLine.TheVariants.{Arena, Block, Spawn, Item, Teleport, Goal, Lift, Depth, Shots, Blocks}
 use Rattle.arena_map.specs.MapLines.{is_item_line, is_teleport_line, is_goal_line, is_lift_line}
 use Rattle.arena_map.specs.Positions.{is_wide, shaft, keeps_box, keeps_stand, keeps_item, keeps_travel}
 use Rattle.arena_map.specs.Maps.{MapView, plain_map, shafts_of}
@@ -36,10 +36,11 @@ begun_map _ = None
 
 -- ---- the other lines
 
--- rule 3: there is room for one more of the line's kind
+-- rule 3: there is room for one more of the line's kind; for one that says how many blocks there may be, there is none
+-- after a block
 abbrev pub keeps_count : MapView → MapLine → Bool
 keeps_count map (Arena lo hi) = true
-keeps_count map (Block lo hi) = nat_lt (length map.blocks) MOST_BLOCKS
+keeps_count map (Block lo hi) = nat_lt (length map.blocks) map.most_blocks
 keeps_count map (Spawn at) = nat_lt (length map.spawns) MOST_SPAWNS
 keeps_count map (Item at kind delay) = nat_lt (count_by is_item_line map.things) MOST_ITEMS
 keeps_count map (Teleport lo hi dest) = nat_lt (count_by is_teleport_line map.things) MOST_BOXES
@@ -47,6 +48,7 @@ keeps_count map (Goal lo hi) = nat_lt (count_by is_goal_line map.things) MOST_BO
 keeps_count map (Lift lo hi rise speed) = nat_lt (count_by is_lift_line map.things) MOST_BOXES
 keeps_count map (Depth depth) = map.depth_lines == 0
 keeps_count map Shots = map.shots_lines == 0
+keeps_count map (Blocks most) = map.limit_lines == 0 && length map.blocks == 0
 
 -- the shaft of an earlier lift overlaps the box
 abbrev pub meets_shaft : List Bounds → Bounds → Bool
@@ -87,6 +89,13 @@ with_depth map depth = record map { depth = depth; depth_lines = map.depth_lines
 abbrev pub with_shots : MapView → MapView
 with_shots map = record map { shots = true; shots_lines = map.shots_lines + 1 }
 
+abbrev pub with_limit : MapView → ℕ → MapView
+with_limit map most = record map {
+  most_blocks = most;
+  limit_lines = map.limit_lines + 1;
+  early_blocks = map.early_blocks + length map.blocks;
+}
+
 -- the map with a line that breaks no rule
 abbrev pub with_line : MapView → MapLine → MapView
 with_line map (Arena lo hi) = map
@@ -98,3 +107,4 @@ with_line map (Goal lo hi) = with_thing map (Goal lo hi)
 with_line map (Lift lo hi rise speed) = with_thing map (Lift lo hi rise speed)
 with_line map (Depth depth) = with_depth map depth
 with_line map Shots = with_shots map
+with_line map (Blocks most) = with_limit map most

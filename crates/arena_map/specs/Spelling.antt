@@ -4,7 +4,7 @@ use Rattle.std.specs.Fmt.{signed_decimal}
 use Rattle.arena_geo.specs.declared.vec3.Vec3.{Vec3}
 use Rattle.edge_io.specs.Fields.{field_text}
 use Rattle.arena_map.specs.declared.map_line.MapLine.{MapLine}
-use Rattle.arena_map.specs.declared.map_line.MapLine.TheVariants.{Arena, Block, Spawn, Item, Teleport, Goal, Lift, Depth, Shots}
+use Rattle.arena_map.specs.declared.map_line.MapLine.TheVariants.{Arena, Block, Spawn, Item, Teleport, Goal, Lift, Depth, Shots, Blocks}
 use Rattle.arena_map.specs.declared.map_word.MapWord.{MapWord}
 use Rattle.arena_map.specs.declared.map_word.MapWord.TheVariants as words
 use Rattle.arena_map.specs.Words.{word_text, kind_text}
@@ -20,6 +20,7 @@ word_of (Goal lo hi) = words.Goal
 word_of (Lift lo hi rise speed) = words.Lift
 word_of (Depth depth) = words.Depth
 word_of Shots = words.Shots
+word_of (Blocks most) = words.Blocks
 
 -- a point: its three coordinates in decimal, with a minus in front of each that is below 0
 abbrev pub point_text : Vec3 → List ℕ
@@ -37,6 +38,7 @@ fields_text (Lift lo hi rise speed) =
     point_text lo ++ point_text hi ++ field_text (signed_decimal rise) ++ field_text (signed_decimal speed)
 fields_text (Depth depth) = field_text (decimal depth)
 fields_text Shots = []
+fields_text (Blocks most) = field_text (decimal most)
 
 -- a line: its word and its fields
 abbrev pub map_line_text : MapLine → List ℕ

@@ -9,7 +9,7 @@ use Rattle.entity_recs.specs.declared.bodies.TheConstants.{ITEM_MINS, ITEM_MAXS}
 use Rattle.entity_recs.specs.Worlds.{nobody}
 use Rattle.arena_map.specs.declared.lift.Lift as lifts
 use Rattle.arena_map.specs.declared.map_line.MapLine.{MapLine}
-use Rattle.arena_map.specs.declared.map_line.MapLine.TheVariants.{Arena, Block, Spawn, Item, Teleport, Goal, Lift, Depth, Shots}
+use Rattle.arena_map.specs.declared.map_line.MapLine.TheVariants.{Arena, Block, Spawn, Item, Teleport, Goal, Lift, Depth, Shots, Blocks}
 
 -- a thing at the start: at rest, with nothing, in state 0
 abbrev pub thing_at_rest : ℕ → Kind → Vec3 → Vec3 → Vec3 → Rec
@@ -43,6 +43,7 @@ record_of id (Goal lo hi) = box_at_rest id kinds.Goal lo hi
 record_of id (Lift lo hi rise speed) = box_at_rest id kinds.Lift lo hi
 record_of id (Depth depth) = nobody
 record_of id Shots = nobody
+record_of id (Blocks most) = nobody
 
 -- the records of things, with ids from this one up
 abbrev pub records_from : ℕ → List MapLine → List Rec

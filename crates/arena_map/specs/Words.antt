@@ -3,7 +3,7 @@ use Rattle.std.specs.Prelude.{ℕ, List, [], ◌∷◌, ◌++◌, replicate, Opt
 use Rattle.entity_recs.specs.declared.kind.Kind.{Kind}
 use Rattle.entity_recs.specs.declared.kind.Kind.TheVariants as kinds
 use Rattle.arena_map.specs.declared.map_word.MapWord.{MapWord}
-use Rattle.arena_map.specs.declared.map_word.MapWord.TheVariants.{Arena, Block, Spawn, Item, Teleport, Goal, Lift, Depth, Shots}
+use Rattle.arena_map.specs.declared.map_word.MapWord.TheVariants.{Arena, Block, Spawn, Item, Teleport, Goal, Lift, Depth, Shots, Blocks}
 use Rattle.arena_map.specs.declared.map_word.MapField.{MapField}
 use Rattle.arena_map.specs.declared.map_word.MapField.TheVariants.{Number, ItemKind}
 
@@ -18,6 +18,7 @@ word_text Goal = codes "goal"
 word_text Lift = codes "lift"
 word_text Depth = codes "depth"
 word_text Shots = codes "shots"
+word_text Blocks = codes "blocks"
 
 -- the word that is written so
 abbrev pub map_word : List ℕ → Option MapWord
@@ -31,6 +32,7 @@ map_word text =
     else if bytes_eq text (codes "lift") then Some Lift
     else if bytes_eq text (codes "depth") then Some Depth
     else if bytes_eq text (codes "shots") then Some Shots
+    else if bytes_eq text (codes "blocks") then Some Blocks
     else None
 
 -- how the kind of an item is written; the other kinds are on no line
@@ -60,3 +62,4 @@ fields_of Goal = numbers 6
 fields_of Lift = numbers 8
 fields_of Depth = numbers 1
 fields_of Shots = []
+fields_of Blocks = numbers 1

@@ -57,15 +57,17 @@ pub fn lines_give_their_things()
     ensures { LinesGiveTheirThings }
 {}
 
-/// The line of an arena begins a map with nothing in it, of depth 4 and without shots. The line of a block, a spawn or a
-/// thing puts it after those that the map has, that of a depth sets the depth, and that of shots lets players shoot; each
-/// changes nothing else. The solids are the walls, and then the blocks in their order.
+/// The line of an arena begins a map with nothing in it, of depth 4, without shots and with room for 1,024 blocks. The line
+/// of a block, a spawn or a thing puts it after those that the map has, that of a depth sets the depth, that of shots lets
+/// players shoot, and that of a number of blocks says how many there may be; each changes nothing else. The solids are the
+/// walls, and then the blocks in their order.
 pub fn lines_change_their_parts()
     ensures { LinesChangeTheirParts }
 {}
 
-/// The limits of a map have the values that the documents say: 1,024 blocks, 64 spawns, 400 items, 16 teleporters, 16 goals
-/// and 16 lifts, and so 448 things; and 4 is the depth of the tree where no line names one. That a map keeps them: `IsMap`.
+/// The limits of a map have the values that the documents say: 1,024 blocks, or where a line says so up to 4,096, 64 spawns,
+/// 400 items, 16 teleporters, 16 goals and 16 lifts, and so 448 things; and 4 is the depth of the tree where no line names
+/// one. That a map keeps them: `IsMap`.
 pub fn limits_are_known()
     ensures { LimitsAreKnown }
 {}

@@ -8,8 +8,8 @@ pub use laws::{
 };
 pub use lift::Lift;
 pub use limits::{
-    DEFAULT_DEPTH, LEAST_SIDE, MOST_BLOCKS, MOST_BOXES, MOST_FRAMES, MOST_ITEMS, MOST_SPAWNS,
-    MOST_THINGS,
+    DEFAULT_BLOCKS, DEFAULT_DEPTH, LEAST_SIDE, MOST_BLOCKS, MOST_BOXES, MOST_FRAMES, MOST_ITEMS,
+    MOST_SPAWNS, MOST_THINGS,
 };
 pub use map::ArenaMap;
 pub use map_fault::{MapFault, MapRefusal};

@@ -1,8 +1,11 @@
 /// The least length of a side of the arena, in sub-units.
 pub const LEAST_SIDE: i32 = 32_768;
 
-/// The most blocks of a map.
-pub const MOST_BLOCKS: usize = 1_024;
+/// The most blocks that a line of a map may allow.
+pub const MOST_BLOCKS: usize = 4_096;
+
+/// The most blocks of a map whose lines don't say how many, and the fewest that a line may allow.
+pub const DEFAULT_BLOCKS: u16 = 1_024;
 
 /// The most spawns of a map.
 pub const MOST_SPAWNS: usize = 64;

@@ -11,12 +11,12 @@ ghost use Rattle.arena_map.specs.declared.map_fault.MapRefusal.TheVariants.{Rule
 ghost use Rattle.arena_map.specs.Maps as maps;
 ghost use Rattle.arena_map.specs.Maps.{IsMap, IsSpawn, IsDelay, IsLift, solids_of, entities_of, has_thing};
 ghost use Rattle.arena_map.specs.MapLines as lines;
-ghost use Rattle.arena_map.specs.MapLines.{IsWithinLimits, is_arena, is_added};
+ghost use Rattle.arena_map.specs.MapLines.{IsWithinLimits, IsBlockLimit, is_arena, is_added};
 ghost use Rattle.arena_map.specs.MapLines.{is_teleporter, is_lift};
 ghost use Rattle.arena_map.specs.Rules.{broken_at_first, begun_map, broken_rule, with_line};
 
 use crate::lift::Lift;
-use crate::limits::{DEFAULT_DEPTH, MOST_BLOCKS};
+use crate::limits::{DEFAULT_BLOCKS, DEFAULT_DEPTH, MOST_BLOCKS};
 use crate::map_fault::{MapFault, MapRefusal};
 use crate::map_line::MapLine;
 use crate::rules::is_wide;
@@ -38,6 +38,8 @@ const NO_SETTINGS: Settings = Settings {
     depth: DEFAULT_DEPTH,
     names_depth: false,
     shots: false,
+    most_blocks: DEFAULT_BLOCKS,
+    names_blocks: false,
 };
 
 // The walls and the blocks are one list, so that a trace is handed a slice. Room for a thing is taken in all lists
@@ -162,6 +164,15 @@ impl ArenaMap {
         ensures rules { IsMap self.now }
     {
         self.settings.shots
+    }
+
+    /// The most blocks that the map may have, 1,024 to 4,096. It is [`DEFAULT_BLOCKS`] where no line says how many.
+    pub fn most_blocks(&self) -> u16
+        ensures value { result ≡ self.now.most_blocks }
+        ensures range { IsBlockLimit self.now.most_blocks }
+        ensures rules { IsMap self.now }
+    {
+        self.settings.most_blocks
     }
 
     /// The things of the map at the start, by id from 64 in the order of their lines.

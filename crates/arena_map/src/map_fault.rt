@@ -13,7 +13,7 @@ pub enum MapFault {
     /// A block, teleporter, goal or lift has no inside, or isn't inside the arena.
     #[error("a box has no inside, or is not inside the arena")]
     Box = 2,
-    /// There are as many of the line's kind as there may be.
+    /// There are as many of the line's kind as there may be; after a block, no line may say how many blocks there may be.
     #[error("there are as many of the kind as there may be")]
     Count = 3,
     /// A player at the spawn or the destination wouldn't be inside the arena.

@@ -48,4 +48,6 @@ pub enum MapLine {
     Depth(u8),
     /// Players can shoot.
     Shots,
+    /// How many blocks there may be.
+    Blocks(u16),
 }

@@ -26,6 +26,8 @@ pub enum MapWord {
     Depth,
     /// That players may shoot.
     Shots,
+    /// How many blocks there may be.
+    Blocks,
 }
 
 /// What a field after the word is.
@@ -62,6 +64,8 @@ impl MapWord {
             Some(MapWord::Depth)
         } else if text == b"shots".as_slice() {
             Some(MapWord::Shots)
+        } else if text == b"blocks".as_slice() {
+            Some(MapWord::Blocks)
         } else {
             None
         }
@@ -82,6 +86,7 @@ impl MapWord {
             MapWord::Lift => b"lift",
             MapWord::Depth => b"depth",
             MapWord::Shots => b"shots",
+            MapWord::Blocks => b"blocks",
         }
     }
 
@@ -95,7 +100,7 @@ impl MapWord {
             MapWord::Item => &[Number, Number, Number, ItemKind, Number],
             MapWord::Teleport => &[Number; 9],
             MapWord::Lift => &[Number; 8],
-            MapWord::Depth => &[Number],
+            MapWord::Depth | MapWord::Blocks => &[Number],
             MapWord::Shots => &[],
         }
     }
@@ -115,6 +120,7 @@ pub fn word_of(l: &MapLine) -> MapWord
         MapLine::Lift { .. } => MapWord::Lift,
         MapLine::Depth(_) => MapWord::Depth,
         MapLine::Shots => MapWord::Shots,
+        MapLine::Blocks(_) => MapWord::Blocks,
     }
 }
 

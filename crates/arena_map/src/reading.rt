@@ -7,6 +7,7 @@ ghost use Rattle.arena_map.specs.Reading as reading;
 ghost use Rattle.arena_map.specs.Spelling.{map_line_text};
 ghost use Rattle.arena_map.specs.TextFaults.{HasNoWord, HasNoForm, IsOutOfLimit};
 
+use crate::limits::{DEFAULT_BLOCKS, MOST_BLOCKS};
 use crate::map_line::MapLine;
 use crate::map_word::{MapField, MapWord, item_kind};
 use areanode::{LEAST_DEPTH, MOST_DEPTH};
@@ -202,13 +203,13 @@ fn lift_in(rest: &[u8]) -> Option<MapLine>
 }
 
 /// A number from `least` to `most`, and the rest.
-fn number_between(rest: &[u8], least: u8, most: u8) -> Option<(u8, &[u8])>
+fn number_between(rest: &[u8], least: u16, most: u16) -> Option<(u16, &[u8])>
     ensures value { option_map (λ n. (n.0, n.1.now)) result ≡ reading.number_between least most rest.now }
     ensures least { IfSome result (λ n. least ≤ n.0) }
     ensures most { IfSome result (λ n. n.0 ≤ most) }
 {
     let (field, rest) = field_at(rest)?;
-    let number = natural(field, u64::from(most))? as u8;
+    let number = natural(field, u64::from(most))? as u16;
     if number < least {
         return None;
     }
@@ -220,8 +221,17 @@ fn depth_in(rest: &[u8]) -> Option<MapLine>
     ensures value { result ≡ reading.depth_in rest.now }
     ensures limits { IfSome result IsWithinLimits }
 {
-    let (depth, rest) = number_between(rest, LEAST_DEPTH, MOST_DEPTH)?;
-    line_at_end(MapLine::Depth(depth), rest)
+    let (depth, rest) = number_between(rest, u16::from(LEAST_DEPTH), u16::from(MOST_DEPTH))?;
+    line_at_end(MapLine::Depth(depth as u8), rest)
+}
+
+/// How many blocks there may be.
+fn blocks_in(rest: &[u8]) -> Option<MapLine>
+    ensures value { result ≡ reading.blocks_in rest.now }
+    ensures limits { IfSome result IsWithinLimits }
+{
+    let (most, rest) = number_between(rest, DEFAULT_BLOCKS, MOST_BLOCKS as u16)?;
+    line_at_end(MapLine::Blocks(most), rest)
 }
 
 /// The line with these fields, where each number is within its limit.
@@ -239,6 +249,7 @@ fn line_within(word: MapWord, rest: &[u8]) -> Option<MapLine>
         MapWord::Lift => lift_in(rest),
         MapWord::Depth => depth_in(rest),
         MapWord::Shots => line_at_end(MapLine::Shots, rest),
+        MapWord::Blocks => blocks_in(rest),
     }
 }
 

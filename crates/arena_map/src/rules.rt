@@ -118,7 +118,8 @@ pub fn keeps_box(arena: &Aabb, l: &MapLine) -> bool
         | MapLine::Spawn { .. }
         | MapLine::Item { .. }
         | MapLine::Depth(_)
-        | MapLine::Shots => true,
+        | MapLine::Shots
+        | MapLine::Blocks(_) => true,
     }
 }
 

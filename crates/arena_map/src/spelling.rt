@@ -74,6 +74,7 @@ fn push_fields(out: &mut LineBuf, l: &MapLine)
         }
         MapLine::Depth(depth) => push_number(out, i32::from(depth)),
         MapLine::Shots => {}
+        MapLine::Blocks(most) => push_number(out, i32::from(most)),
     }
 }
 

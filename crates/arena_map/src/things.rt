@@ -44,7 +44,8 @@ pub fn record_of(id: u16, l: &MapLine) -> Rec
         | MapLine::Block { .. }
         | MapLine::Spawn { .. }
         | MapLine::Depth(_)
-        | MapLine::Shots => unreachable!(),
+        | MapLine::Shots
+        | MapLine::Blocks(_) => unreachable!(),
     }
 }
 

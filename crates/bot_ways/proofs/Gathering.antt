@@ -21,7 +21,7 @@ use Rattle.demo_lines.specs.declared.line.Line.TheVariants.{OfMap, End}
 use Rattle.demo_lines.specs.Spelling.{packet_text, line_text, arena_line, frame_lines, shots_lines_of}
 use Rattle.bot_ways.specs.declared.plan.Plan.{Plan}
 use Rattle.bot_ways.specs.Moves.{waypoint_points, length_through, frame_of, move_frame, frames_through, bot_frames}
-use Rattle.bot_ways.specs.PlanTexts.{frame_text, frames_text, lines_text, block_of, depth_lines_of, depth_text, shots_text, blocks_text, spawns_text, things_text, added_lines, map_text, walk_text, way_line, length_line, least_line, plan_text}
+use Rattle.bot_ways.specs.PlanTexts.{frame_text, frames_text, lines_text, block_of, depth_lines_of, limit_lines_of, setting_lines_of, depth_text, settings_text, blocks_text, spawns_text, things_text, added_lines, map_text, walk_text, way_line, length_line, least_line, plan_text}
 
 -- ---- pieces of a list
 
@@ -92,18 +92,23 @@ pub text-both : (ls ms : List MapLine) → lines_text (ls ++ ms) ≡ lines_text 
 text-both ls ms =
     ap unlines (map-append map_line_text ls ms) ∙ flat_map-append (λ line. line ++ 10 ∷ []) (map map_line_text ls) (map map_line_text ms)
 
+-- the text of the lines of the settings
+pub settings-parts : (m : MapView) → lines_text (setting_lines_of m) ≡ settings_text m
+settings-parts m =
+    text-both (depth_lines_of m) (shots_lines_of m ++ limit_lines_of m)
+    ∙ ap (λ t. depth_text m ++ t) (text-both (shots_lines_of m) (limit_lines_of m))
+
 -- the text of the lines of a map
 pub map-parts : (m : MapView) → unlines (map line_text (arena_line m.bounds ∷ map OfMap (added_lines m))) ≡ map_text m
 map-parts m =
     ap (λ ls. unlines (line_text (arena_line m.bounds) ∷ ls)) (of_map (added_lines m))
     ∙ ap (λ t. (line_text (arena_line m.bounds) ++ 10 ∷ []) ++ t)
-    (text-both (depth_lines_of m) (shots_lines_of m ++ (map block_of m.blocks ++ (map Spawn m.spawns ++ m.things)))
-    ∙ ap (λ t. depth_text m ++ t)
-    (text-both (shots_lines_of m) (map block_of m.blocks ++ (map Spawn m.spawns ++ m.things))
-    ∙ ap (λ t. shots_text m ++ t)
+    (text-both (setting_lines_of m) (map block_of m.blocks ++ (map Spawn m.spawns ++ m.things))
+    ∙ ap (λ t. t ++ lines_text (map block_of m.blocks ++ (map Spawn m.spawns ++ m.things))) (settings-parts m)
+    ∙ ap (λ t. settings_text m ++ t)
     (text-both (map block_of m.blocks) (map Spawn m.spawns ++ m.things)
-    ∙ ap (λ t. blocks_text m ++ t) (text-both (map Spawn m.spawns) m.things))))
-    ∙ ap (λ t. t ++ (depth_text m ++ (shots_text m ++ (blocks_text m ++ (spawns_text m ++ things_text m))))) (sym (append-nil (line_text (arena_line m.bounds) ++ 10 ∷ [])))
+    ∙ ap (λ t. blocks_text m ++ t) (text-both (map Spawn m.spawns) m.things)))
+    ∙ ap (λ t. t ++ (settings_text m ++ (blocks_text m ++ (spawns_text m ++ things_text m)))) (sym (append-nil (line_text (arena_line m.bounds) ++ 10 ∷ [])))
 
 -- the text of a recording is that of its map, that of its frames, and the end
 pub walk-parts : (m : MapView) (way : List ℕ) → walk_text m way ≡ map_text m ++ (frames_text (bot_frames m way) ++ codes "end\n")

@@ -9,9 +9,9 @@ use Rattle.edge_io.specs.Fields.{field_text}
 use Rattle.arena_geo.specs.declared.vec3.Vec3.{Vec3}
 use Rattle.arena_geo.specs.Bounds.{Bounds}
 use Rattle.entity_recs.specs.declared.kind.Kind.{Kind}
-use Rattle.arena_map.specs.declared.limits.TheConstants.{DEFAULT_DEPTH}
+use Rattle.arena_map.specs.declared.limits.TheConstants.{DEFAULT_BLOCKS, DEFAULT_DEPTH}
 use Rattle.arena_map.specs.declared.map_line.MapLine.{MapLine}
-use Rattle.arena_map.specs.declared.map_line.MapLine.TheVariants.{Arena, Block, Spawn, Item, Teleport, Goal, Lift, Depth, Shots}
+use Rattle.arena_map.specs.declared.map_line.MapLine.TheVariants.{Arena, Block, Spawn, Item, Teleport, Goal, Lift, Depth, Shots, Blocks}
 use Rattle.arena_map.specs.MapLines.{IsWithinLimits, is_thing_line, is_item_line, is_teleport_line, is_goal_line, is_lift_line}
 use Rattle.arena_map.specs.Maps.{MapView, IsMap, IsThingInside, plain_map}
 use Rattle.arena_map.specs.Rules.{with_line}
@@ -21,9 +21,9 @@ use Rattle.arena_map.proofs.Counting.{count-cons}
 use Rattle.demo_lines.specs.InTurn.{AreAccepted}
 use Rattle.demo_lines.specs.Spelling.{shots_lines_of}
 use Rattle.demo_lines.proofs.Written.{point-long, corners-long, kind-long}
-use Rattle.bot_ways.specs.PlanTexts.{block_of, depth_lines_of, added_lines, lines_text, depth_text, shots_text, blocks_text, spawns_text, things_text, map_text, arena_text}
+use Rattle.bot_ways.specs.PlanTexts.{block_of, depth_lines_of, limit_lines_of, setting_lines_of, added_lines, lines_text, settings_text, blocks_text, spawns_text, things_text, map_text, arena_text}
 use Rattle.bot_ways.specs.Rooms.{room_of_things, room_of_map}
-use Rattle.bot_ways.proofs.Gathering.{text-both}
+use Rattle.bot_ways.proofs.Gathering.{text-both, settings-parts}
 use Rattle.bot_ways.proofs.MapsBefore.{lines-accepted}
 
 -- ---- a line
@@ -44,6 +44,7 @@ room_of_line (Goal lo hi) = 59
 room_of_line (Lift lo hi rise speed) = 72
 room_of_line (Depth depth) = 8
 room_of_line Shots = 6
+room_of_line (Blocks most) = 12
 
 item-long : (at : Vec3) (kind : Kind) (delay : ℕ) → IsWithinLimits (Item at kind delay) → length (fields_text (Item at kind delay)) ≤ 38
 item-long at kind delay is =
@@ -83,6 +84,7 @@ fields-long (Goal lo hi) is = omega (arith, corners-long lo hi is.0 is.1)
 fields-long (Lift lo hi rise speed) is = omega (arith, lift-long lo hi rise speed is)
 fields-long (Depth depth) is = omega (arith, length-decimal-le 1 depth (omega arith) (omega (arith, is.most)) (omega (arith, is.most)))
 fields-long Shots is = omega arith
+fields-long (Blocks most) is = omega (arith, length-decimal-le 4 most (omega arith) (omega (arith, is.most)) (omega (arith, is.most)))
 
 -- ---- lines
 
@@ -137,6 +139,7 @@ counted-more line things thing =
     kind_of (Lift lo hi rise speed) thing = refl
     kind_of (Depth depth) thing = cc
     kind_of Shots thing = cc
+    kind_of (Blocks most) thing = cc
 
 things-rooms : (arena : Bounds) (things : List MapLine) → AllByRecursion (IsThingInside arena) things → room_of_lines things ≡ counted things
 things-rooms arena [] each = refl
@@ -158,24 +161,40 @@ shots-rooms m = by m.shots
     by true = omega arith
     by false = omega arith
 
+limit-rooms : (m : MapView) → room_of_lines (limit_lines_of m) ≤ 12
+limit-rooms m = by (m.most_blocks == DEFAULT_BLOCKS)
+  where
+    by : (default : Bool) → room_of_lines (cond default [] (Blocks m.most_blocks ∷ [])) ≤ 12
+    by true = omega arith
+    by false = omega arith
+
+settings-rooms : (m : MapView) → room_of_lines (setting_lines_of m) ≤ 26
+settings-rooms m =
+    omega (
+      arith,
+      rooms-both (depth_lines_of m) (shots_lines_of m ++ limit_lines_of m),
+      rooms-both (shots_lines_of m) (limit_lines_of m),
+      depth-rooms m,
+      shots-rooms m,
+      limit-rooms m,
+    )
+
 -- lines that a map takes are within their limits
 within : (m : MapView) (lines : List MapLine) → AreAccepted m lines → AllByRecursion IsWithinLimits lines
 within m [] accepted = tt
 within m (line ∷ lines) accepted = (accepted.0.limits, within (with_line m line) lines accepted.1)
 
-added-rooms : (m : MapView) → IsMap m → room_of_lines (added_lines m) ≤ 14 + 60 * length m.blocks + 33 * length m.spawns + room_of_things m
+added-rooms : (m : MapView) → IsMap m → room_of_lines (added_lines m) ≤ 26 + 60 * length m.blocks + 33 * length m.spawns + room_of_things m
 added-rooms m is =
     let things = recursion_from_All (IsThingInside m.bounds) m.things is.things in
     let placed = map Spawn m.spawns ++ m.things in
     let all = map block_of m.blocks ++ placed in
     omega (
       arith,
-      rooms-both (depth_lines_of m) (shots_lines_of m ++ all),
-      rooms-both (shots_lines_of m) all,
+      rooms-both (setting_lines_of m) all,
       rooms-both (map block_of m.blocks) placed,
       rooms-both (map Spawn m.spawns) m.things,
-      depth-rooms m,
-      shots-rooms m,
+      settings-rooms m,
       blocks-rooms m.blocks,
       spawns-rooms m.spawns,
       things-rooms m.bounds m.things things,
@@ -188,13 +207,12 @@ map-length m =
     let all = map block_of m.blocks ++ placed in
     omega (
       arith,
-      length-append (arena_text m) (depth_text m ++ (shots_text m ++ (blocks_text m ++ (spawns_text m ++ things_text m)))),
-      length-append (depth_text m) (shots_text m ++ (blocks_text m ++ (spawns_text m ++ things_text m))),
-      length-append (shots_text m) (blocks_text m ++ (spawns_text m ++ things_text m)),
+      length-append (arena_text m) (settings_text m ++ (blocks_text m ++ (spawns_text m ++ things_text m))),
+      length-append (settings_text m) (blocks_text m ++ (spawns_text m ++ things_text m)),
       length-append (blocks_text m) (spawns_text m ++ things_text m),
       length-append (spawns_text m) (things_text m),
-      both (depth_lines_of m) (shots_lines_of m ++ all),
-      both (shots_lines_of m) all,
+      ap (λ (t : List ℕ). length t) (settings-parts m),
+      both (setting_lines_of m) all,
       both (map block_of m.blocks) placed,
       both (map Spawn m.spawns) m.things,
     )

@@ -8,9 +8,9 @@ use Rattle.std.proofs.lemmas.Bool.{eqb-true, or_parts}
 use Rattle.arena_geo.specs.declared.vec3.Vec3.{Vec3}
 use Rattle.arena_geo.specs.Bounds.{Bounds}
 use Rattle.arena_geo.specs.Boxes.{overlaps, is_blocked}
-use Rattle.arena_map.specs.declared.limits.TheConstants.{DEFAULT_DEPTH, MOST_BLOCKS, MOST_BOXES, MOST_ITEMS, MOST_SPAWNS}
+use Rattle.arena_map.specs.declared.limits.TheConstants.{DEFAULT_BLOCKS, DEFAULT_DEPTH, MOST_BOXES, MOST_ITEMS, MOST_SPAWNS}
 use Rattle.arena_map.specs.declared.map_line.MapLine.{MapLine}
-use Rattle.arena_map.specs.declared.map_line.MapLine.TheVariants.{Arena, Block, Spawn, Item, Teleport, Goal, Lift, Depth, Shots}
+use Rattle.arena_map.specs.declared.map_line.MapLine.TheVariants.{Arena, Block, Spawn, Item, Teleport, Goal, Lift, Depth, Shots, Blocks}
 use Rattle.arena_map.specs.Positions.{shaft_of}
 use Rattle.arena_map.specs.MapLines.{IsWithinLimits, is_added, is_thing_line, is_item_line, is_teleport_line, is_goal_line, is_lift_line}
 use Rattle.arena_map.specs.Maps.{MapView, plain_map, IsMap, IsBlock, IsSpawn, IsThingInside, shafts_of}
@@ -20,7 +20,7 @@ use Rattle.arena_map.proofs.Breaking.{leaves-unbroken}
 use Rattle.demo_lines.specs.Spelling.{shots_lines_of}
 use Rattle.demo_lines.specs.InTurn.{AreAccepted, map_in_turn}
 use Rattle.demo_lines.proofs.RecordingsRead.{block_near, set, filled}
-use Rattle.bot_ways.specs.PlanTexts.{block_of, depth_lines_of, added_lines, as_written}
+use Rattle.bot_ways.specs.PlanTexts.{block_of, depth_lines_of, limit_lines_of, setting_lines_of, added_lines, as_written}
 
 -- ---- fronts of lists
 
@@ -59,7 +59,7 @@ before_block m b is = record {
   hi = is.hi;
   wide = is.wide;
   blocks = all-front (IsBlock m.bounds) m.blocks b is.blocks;
-  few_blocks = few-front m.blocks b MOST_BLOCKS is.few_blocks;
+  few_blocks = few-front m.blocks b m.most_blocks is.few_blocks;
   spawns = is.spawns;
   few_spawns = is.few_spawns;
   things = is.things;
@@ -73,6 +73,7 @@ before_block m b is = record {
   few_depth_lines = is.few_depth_lines;
   default_depth = is.default_depth;
   shots_line = is.shots_line;
+  limit = is.limit;
 }
 
 before_spawn : (m : MapView) (at : Vec3) → IsMap (with_spawn m at) → IsMap m
@@ -96,6 +97,7 @@ before_spawn m at is = record {
   few_depth_lines = is.few_depth_lines;
   default_depth = is.default_depth;
   shots_line = is.shots_line;
+  limit = is.limit;
 }
 
 before_thing : (m : MapView) (line : MapLine) → IsMap (with_thing m line) → IsMap m
@@ -123,12 +125,14 @@ before_thing m line is =
       few_depth_lines = is.few_depth_lines;
       default_depth = is.default_depth;
       shots_line = is.shots_line;
+      limit = is.limit;
     }
 
 -- the line is one of the settings, which replace what was there
 abbrev is_setting : MapLine → Bool
 is_setting (Depth depth) = true
 is_setting Shots = true
+is_setting (Blocks most) = true
 is_setting _ = false
 
 before_line : (m : MapView) (line : MapLine) → is_setting line ≡ false → IsMap (with_line m line) → IsMap m
@@ -141,6 +145,7 @@ before_line m (Goal lo hi) added is = before_thing m (Goal lo hi) is
 before_line m (Lift lo hi rise speed) added is = before_thing m (Lift lo hi rise speed) is
 before_line m (Depth depth) added is = cc
 before_line m Shots added is = cc
+before_line m (Blocks most) added is = cc
 
 -- ---- lines that are accepted
 
@@ -180,6 +185,7 @@ thing-added (Goal lo hi) thing = (refl, refl)
 thing-added (Lift lo hi rise speed) thing = (refl, refl)
 thing-added (Depth depth) thing = cc
 thing-added Shots thing = cc
+thing-added (Blocks most) thing = cc
 
 things-each : (arena : Bounds) (lines : List MapLine) → AllByRecursion (IsThingInside arena) lines → AllByRecursion MayBeAdded lines
 things-each arena [] each = tt
@@ -209,6 +215,7 @@ added-thing m (Goal lo hi) thing = refl
 added-thing m (Lift lo hi rise speed) thing = refl
 added-thing m (Depth depth) thing = cc
 added-thing m Shots thing = cc
+added-thing m (Blocks most) thing = cc
 
 things-added : (m : MapView) (blocks : List Bounds) (spawns : List Vec3) (done things : List MapLine) → AllByRecursion (IsThingInside m.bounds) things
     → fold with_line (filled m blocks spawns done) things ≡ filled m blocks spawns (done ++ things)
@@ -230,7 +237,15 @@ accepted-both m (x ∷ xs) ys one other = (one.0, accepted-both (with_line m x) 
 
 -- with the depth alone, as it is written
 abbrev deep : MapView → MapView
-deep m = set m.bounds m.depth (as_written m).depth_lines false 0
+deep m = set m.bounds m.depth (as_written m).depth_lines false 0 DEFAULT_BLOCKS 0
+
+-- with the depth, and with shots where players can shoot
+abbrev armed : MapView → MapView
+armed m = set m.bounds m.depth (as_written m).depth_lines m.shots m.shots_lines DEFAULT_BLOCKS 0
+
+-- with so many lines that say how many blocks there may be
+abbrev limited : MapView → ℕ → MapView
+limited m lines = set m.bounds m.depth (as_written m).depth_lines m.shots m.shots_lines m.most_blocks lines
 
 -- these lines are accepted there, and lead to this map
 record LeadsTo (from : MapView) (lines : List MapLine) (to : MapView) : Type 0 where
@@ -247,22 +262,43 @@ depth-leads : (m : MapView) → IsMap m → LeadsTo (plain_map m.bounds [] [] []
 depth-leads m is = by (m.depth == DEFAULT_DEPTH) refl
   where
     by : (default : Bool) → (m.depth == DEFAULT_DEPTH) ≡ default
-        → LeadsTo (plain_map m.bounds [] [] []) (cond default [] (Depth m.depth ∷ [])) (set m.bounds m.depth (cond default 0 1) false 0)
-    by true h = record { accepted = tt; reached = ap (λ d. set m.bounds d 0 false 0) (sym (eqb-true m.depth DEFAULT_DEPTH h)) }
+        → LeadsTo (plain_map m.bounds [] [] []) (cond default [] (Depth m.depth ∷ [])) (set m.bounds m.depth (cond default 0 1) false 0 DEFAULT_BLOCKS 0)
+    by true h = record { accepted = tt; reached = ap (λ d. set m.bounds d 0 false 0 DEFAULT_BLOCKS 0) (sym (eqb-true m.depth DEFAULT_DEPTH h)) }
     by false h = record { accepted = (record { limits = is.depth; added = refl; rules = refl }, tt); reached = refl }
 
-shots-lead : (m : MapView) → IsMap m → LeadsTo (deep m) (shots_lines_of m) (filled (as_written m) [] [] [])
+shots-lead : (m : MapView) → IsMap m → LeadsTo (deep m) (shots_lines_of m) (armed m)
 shots-lead m is = by m.shots refl
   where
     settings_are : (shots : Bool) → m.shots ≡ shots
-        → set m.bounds m.depth (as_written m).depth_lines shots (cond shots 1 0) ≡ filled (as_written m) [] [] []
+        → set m.bounds m.depth (as_written m).depth_lines shots (cond shots 1 0) DEFAULT_BLOCKS 0 ≡ armed m
     settings_are shots h =
-        ap (λ b. set m.bounds m.depth (as_written m).depth_lines b (cond b 1 0)) (sym h)
-        ∙ ap (λ l. set m.bounds m.depth (as_written m).depth_lines m.shots l) (sym is.shots_line)
+        ap (λ b. set m.bounds m.depth (as_written m).depth_lines b (cond b 1 0) DEFAULT_BLOCKS 0) (sym h)
+        ∙ ap (λ l. set m.bounds m.depth (as_written m).depth_lines m.shots l DEFAULT_BLOCKS 0) (sym is.shots_line)
 
-    by : (shots : Bool) → m.shots ≡ shots → LeadsTo (deep m) (cond shots (Shots ∷ []) []) (filled (as_written m) [] [] [])
+    by : (shots : Bool) → m.shots ≡ shots → LeadsTo (deep m) (cond shots (Shots ∷ []) []) (armed m)
     by true h = record { accepted = (record { limits = tt; added = refl; rules = refl }, tt); reached = settings_are true h }
     by false h = record { accepted = tt; reached = settings_are false h }
+
+limit-leads : (m : MapView) → IsMap m → LeadsTo (armed m) (limit_lines_of m) (filled (as_written m) [] [] [])
+limit-leads m is = by (m.most_blocks == DEFAULT_BLOCKS) refl
+  where
+    -- no block comes before the line
+    early : (lines : ℕ) → limited m lines ≡ record (limited m lines) { early_blocks = m.early_blocks }
+    early lines = ap (λ e. record (limited m lines) { early_blocks = e }) (sym is.limit.first)
+
+    by : (default : Bool) → (m.most_blocks == DEFAULT_BLOCKS) ≡ default
+        → LeadsTo (armed m) (cond default [] (Blocks m.most_blocks ∷ [])) (record (limited m (cond default 0 1)) { early_blocks = m.early_blocks })
+    by true h = record {
+      accepted = tt;
+      reached = ap (λ b. set m.bounds m.depth (as_written m).depth_lines m.shots m.shots_lines b 0) (sym (eqb-true m.most_blocks DEFAULT_BLOCKS h)) ∙ early 0;
+    }
+    by false h = record { accepted = (record { limits = is.limit.range; added = refl; rules = refl }, tt); reached = early 1 }
+
+settings-lead : (m : MapView) → IsMap m → LeadsTo (plain_map m.bounds [] [] []) (setting_lines_of m) (filled (as_written m) [] [] [])
+settings-lead m is =
+    let written = filled (as_written m) [] [] [] in
+    leads-then (plain_map m.bounds [] [] []) (deep m) written (depth_lines_of m) (shots_lines_of m ++ limit_lines_of m) (depth-leads m is)
+    (leads-then (deep m) (armed m) written (shots_lines_of m) (limit_lines_of m) (shots-lead m is) (limit-leads m is))
 
 -- the map as it is written keeps the rules
 written-is_map : (m : MapView) → IsMap m → IsMap (as_written m)
@@ -284,11 +320,17 @@ written-is_map m is = record {
   shafts_apart = is.shafts_apart;
   depth = is.depth;
   few_depth_lines = few (m.depth == DEFAULT_DEPTH);
-  default_depth = λ none. default (m.depth == DEFAULT_DEPTH) refl none;
+  default_depth = λ none. default DEFAULT_DEPTH m.depth (m.depth == DEFAULT_DEPTH) refl none;
   shots_line = is.shots_line;
+  limit = record {
+    range = is.limit.range;
+    few_lines = few (m.most_blocks == DEFAULT_BLOCKS);
+    default = λ none. default DEFAULT_BLOCKS m.most_blocks (m.most_blocks == DEFAULT_BLOCKS) refl none;
+    first = is.limit.first;
+  };
 }
   where
-    -- how many lines name the depth
+    -- how many lines name it
     named : Bool → ℕ
     named b = cond b 0 1
 
@@ -296,9 +338,9 @@ written-is_map m is = record {
     few true = omega arith
     few false = omega arith
 
-    default : (b : Bool) → (m.depth == DEFAULT_DEPTH) ≡ b → named b ≡ 0 → m.depth ≡ DEFAULT_DEPTH
-    default true h none = eqb-true m.depth DEFAULT_DEPTH h
-    default false h none = absurd (omega (arith, none))
+    default : (usual n : ℕ) (b : Bool) → (n == usual) ≡ b → named b ≡ 0 → n ≡ usual
+    default usual n true h none = eqb-true n usual h
+    default usual n false h none = absurd (omega (arith, none))
 
 -- ---- all lines
 
@@ -335,8 +377,7 @@ lines-lead : (m : MapView) → IsMap m → LeadsTo (plain_map m.bounds [] [] [])
 lines-lead m is =
     let bare = plain_map m.bounds [] [] [] in
     let written = as_written m in
-    leads-then bare (deep m) written (depth_lines_of m) (shots_lines_of m ++ part_lines m) (depth-leads m is)
-    (leads-then (deep m) (filled written [] [] []) written (shots_lines_of m) (part_lines m) (shots-lead m is) (parts-lead written (written-is_map m is)))
+    leads-then bare (filled written [] [] []) written (setting_lines_of m) (part_lines m) (settings-lead m is) (parts-lead written (written-is_map m is))
 
 -- the lines give the map again
 pub map-again : (m : MapView) → IsMap m → map_in_turn m.bounds (added_lines m) ≡ as_written m

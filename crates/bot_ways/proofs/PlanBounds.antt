@@ -193,6 +193,7 @@ plan_texts_are_bounded = record {
         moves-few m plan planned,
         planned.is.few,
         is.few_blocks,
+        is.limit.range.most,
         is.few_spawns,
         is.few_items,
         is.few_teleporters,

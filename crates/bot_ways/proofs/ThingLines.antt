@@ -3,7 +3,7 @@ use Rattle.std.proofs.Common.{◌≡◌, ℕ, ◌+◌, ◌<◌, true, length, Li
 use Rattle.std.proofs.lemmas.Option.{slice_get-get_or, same_Some}
 use Rattle.entity_recs.specs.declared.rec.Rec.{Rec}
 use Rattle.arena_map.specs.declared.map_line.MapLine.{MapLine}
-use Rattle.arena_map.specs.declared.map_line.MapLine.TheVariants.{Arena, Block, Spawn, Item, Teleport, Goal, Lift, Depth, Shots}
+use Rattle.arena_map.specs.declared.map_line.MapLine.TheVariants.{Arena, Block, Spawn, Item, Teleport, Goal, Lift, Depth, Shots, Blocks}
 use Rattle.arena_map.specs.MapLines.{IsWithinLimits, is_thing_line}
 use Rattle.arena_map.specs.Maps.{MapView, IsMap, entities_of, dest_of, delay_of, lift_of}
 use Rattle.arena_map.specs.LineThings.{GivesAs}
@@ -21,6 +21,7 @@ line-by m place (Block lo hi) thing is gives there = cc
 line-by m place (Spawn at) thing is gives there = cc
 line-by m place (Depth depth) thing is gives there = cc
 line-by m place Shots thing is gives there = cc
+line-by m place (Blocks most) thing is gives there = cc
 line-by m place (Item at kind delay) thing is gives there =
     let has = gives.0 in
     let known = has.is in

@@ -49,7 +49,8 @@ WaysAreUnique =
     → IsWay map least v one → IsWay map least v other → one ≡ other
 
 -- what is written of a plan is, up to its line `end`, a recording of the map in which the bot joins and walks along the way:
--- it has no fault, and gives this map, but for a line that names the depth which a map has anyway, and these frames
+-- it has no fault, and gives this map, but for a line that names the depth or the number of blocks which a map has anyway,
+-- and these frames
 abbrev pub PlansAreRecordings : Type 0
 PlansAreRecordings =
     (map : MapView) (plan : Plan) → IsMap map → IsPlan map plan
@@ -71,7 +72,7 @@ pub record MovesAreKnown : Type 0 where
   pub wishes : (part : ℤ) (whole : ℕ) → 1 ≤ whole → unsigned_abs part ≤ whole → unsigned_abs (wish_along part whole) ≤ 320
 
 -- what is written of a plan has at most as many bytes as its map, its moves and its waypoints need. An edge has at most 16
--- moves, so the way has at most 16 moves for each of its edges; so with the most of each the text has at most 123,417. The
+-- moves, so the way has at most 16 moves for each of its edges; so with the most of each the text has at most 307,749. The
 -- line of the least lengths alone has at most 6, and 8 for each waypoint
 pub record PlanTextsAreBounded : Type 0 where
   pub texts : (map : MapView) (plan : Plan) → IsMap map → IsPlan map plan
@@ -80,6 +81,6 @@ pub record PlanTextsAreBounded : Type 0 where
   pub moves : (map : MapView) (plan : Plan) → IsPlan map plan → moves_on map plan.way + 16 ≤ 16 * length plan.way
   pub least : (map : MapView) (least : List (Option ℕ)) → IsMap map → IsCertificate map least
       → length (least_line least) ≤ room_of_least map
-  pub limit : MOST_PLAN_BYTES ≡ 123417
+  pub limit : MOST_PLAN_BYTES ≡ 307749
   pub longest : (map : MapView) (plan : Plan) → IsMap map → IsPlan map plan
       → length (plan_text map plan) ≤ MOST_PLAN_BYTES

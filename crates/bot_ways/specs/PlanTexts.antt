@@ -3,9 +3,9 @@ use Rattle.std.specs.Prelude.{◌≡◌, ℕ, ◌≤◌, ◌==◌, if◌then◌e
 use Rattle.edge_io.specs.Fields.{field_text}
 use Rattle.edge_io.specs.WholeLines.{unlines}
 use Rattle.arena_geo.specs.Bounds.{Bounds}
-use Rattle.arena_map.specs.declared.limits.TheConstants.{DEFAULT_DEPTH}
+use Rattle.arena_map.specs.declared.limits.TheConstants.{DEFAULT_BLOCKS, DEFAULT_DEPTH}
 use Rattle.arena_map.specs.declared.map_line.MapLine.{MapLine}
-use Rattle.arena_map.specs.declared.map_line.MapLine.TheVariants.{Arena, Block, Spawn, Depth}
+use Rattle.arena_map.specs.declared.map_line.MapLine.TheVariants.{Arena, Block, Spawn, Depth, Blocks}
 use Rattle.arena_map.specs.Maps.{MapView}
 use Rattle.arena_map.specs.Spelling.{map_line_text}
 use Rattle.packet_read.specs.declared.arrival.Arrival.{Arrival}
@@ -49,21 +49,32 @@ frames_text frames = flat_map frame_text frames
 abbrev pub depth_lines_of : MapView → List MapLine
 depth_lines_of m = if m.depth == DEFAULT_DEPTH then [] else Depth m.depth ∷ []
 
--- the lines of a map after that of its arena: the depth, shots, the blocks, the spawns and then the things by id
-abbrev pub added_lines : MapView → List MapLine
-added_lines m =
-    depth_lines_of m ++ (shots_lines_of m ++ (map block_of m.blocks ++ (map Spawn m.spawns ++ m.things)))
+-- the line that says how many blocks there may be, where they aren't as many as without it
+abbrev pub limit_lines_of : MapView → List MapLine
+limit_lines_of m = if m.most_blocks == DEFAULT_BLOCKS then [] else Blocks m.most_blocks ∷ []
 
--- the map of these lines: the same, without a line that names the depth which a map has anyway
--- The lines stand by kind, so a plan that is read again gives the same text; `depth 4` isn't written again.
+-- the lines of a map's settings
+abbrev pub setting_lines_of : MapView → List MapLine
+setting_lines_of m = depth_lines_of m ++ (shots_lines_of m ++ limit_lines_of m)
+
+-- the lines of a map after that of its arena: the settings, the blocks, the spawns and then the things by id
+abbrev pub added_lines : MapView → List MapLine
+added_lines m = setting_lines_of m ++ (map block_of m.blocks ++ (map Spawn m.spawns ++ m.things))
+
+-- the map of these lines: the same, without a line that names the depth which a map has anyway, or as many blocks
+-- The lines stand by kind, so a plan that is read again gives the same text; `depth 4` isn't written again, nor `blocks 1024`.
 abbrev pub as_written : MapView → MapView
-as_written m = record m { depth_lines = if m.depth == DEFAULT_DEPTH then 0 else 1 }
+as_written m = record m {
+  depth_lines = if m.depth == DEFAULT_DEPTH then 0 else 1;
+  limit_lines = if m.most_blocks == DEFAULT_BLOCKS then 0 else 1;
+}
 
 -- map lines, each with its line feed
 abbrev pub lines_text : List MapLine → List ℕ
 lines_text lines = unlines (map map_line_text lines)
 
--- the lines of the arena, of the depth, of shots, of the blocks, of the spawns and of the things
+-- the lines of the arena, of the depth, of shots, of how many blocks there may be, of the blocks, of the spawns and of the
+-- things
 abbrev pub arena_text : MapView → List ℕ
 arena_text m = lines_text (Arena m.bounds.lo m.bounds.hi ∷ [])
 
@@ -72,6 +83,12 @@ depth_text m = lines_text (depth_lines_of m)
 
 abbrev pub shots_text : MapView → List ℕ
 shots_text m = lines_text (shots_lines_of m)
+
+abbrev pub limit_text : MapView → List ℕ
+limit_text m = lines_text (limit_lines_of m)
+
+abbrev pub settings_text : MapView → List ℕ
+settings_text m = depth_text m ++ (shots_text m ++ limit_text m)
 
 abbrev pub blocks_text : MapView → List ℕ
 blocks_text m = lines_text (map block_of m.blocks)
@@ -84,7 +101,7 @@ things_text m = lines_text m.things
 
 -- the lines of a map
 abbrev pub map_text : MapView → List ℕ
-map_text m = arena_text m ++ (depth_text m ++ (shots_text m ++ (blocks_text m ++ (spawns_text m ++ things_text m))))
+map_text m = arena_text m ++ (settings_text m ++ (blocks_text m ++ (spawns_text m ++ things_text m)))
 
 -- the recording of a walk: the map, the frame in which the bot joins, a frame for each of its moves, and the end
 abbrev pub walk_text : MapView → List ℕ → List ℕ

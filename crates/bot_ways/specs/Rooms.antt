@@ -15,9 +15,10 @@ room_of_things m =
     43 * count_by is_item_line m.things + 90 * count_by is_teleport_line m.things
     + 59 * count_by is_goal_line m.things + 72 * count_by is_lift_line m.things
 
--- for those of a map: 60 for the arena, 8 for the depth, 6 for shots, 60 for each block, 33 for each spawn, and its things
+-- for those of a map: 60 for the arena, 8 for the depth, 6 for shots, 12 for how many blocks there may be, 60 for each block,
+-- 33 for each spawn, and its things
 abbrev pub room_of_map : MapView → ℕ
-room_of_map m = 74 + 60 * length m.blocks + 33 * length m.spawns + room_of_things m
+room_of_map m = 86 + 60 * length m.blocks + 33 * length m.spawns + room_of_things m
 
 -- for the recording of a walk: its map, 18 for the join, 38 for each move, and 4 for the end
 abbrev pub room_of_walk : MapView → List ℕ → ℕ

@@ -1,6 +1,7 @@
 ghost use Rattle.arena_geo.specs.declared.aabb.TheConstants.{FARTHEST};
 ghost use Rattle.std.specs.Prelude.{◌≡◌, ◌<◌, ◌≤◌, ◌&&◌, ◌-ℤ◌, true, length, unsigned_abs, slice_get, Some, IfSome};
 ghost use Rattle.arena_geo.specs.Vectors.{IsNear};
+ghost use Rattle.box_trace.specs.declared.hit.TheConstants.{MOST_SOLIDS};
 ghost use Rattle.bot_ways.specs.Edges as edges;
 
 use arena_geo::{Aabb, Vec3};
@@ -33,7 +34,7 @@ fn is_free(solids: &[Aabb], from: Vec3, to: Vec3) -> bool
     requires from { IsNear FARTHEST from }
     requires to { IsNear FARTHEST to }
     requires near { edges.are_near from to ≡ true }
-    requires few { length solids.now ≤ 1030 }
+    requires few { length solids.now ≤ MOST_SOLIDS }
     ensures { result ≡ edges.is_free solids.now from to }
 {
     let body = player_box(from);
@@ -44,7 +45,7 @@ fn is_free(solids: &[Aabb], from: Vec3, to: Vec3) -> bool
 fn has_edge(solids: &[Aabb], from: Vec3, to: Vec3) -> bool
     requires from { IsNear FARTHEST from }
     requires to { IsNear FARTHEST to }
-    requires few { length solids.now ≤ 1030 }
+    requires few { length solids.now ≤ MOST_SOLIDS }
     ensures { result ≡ edges.are_near from to && edges.is_free solids.now from to }
 {
     let length = distance(from, to);

@@ -7,7 +7,7 @@ ghost use Rattle.bot_ways.specs.Things as things;
 
 use crate::plan_text::PlanText;
 use arena_geo::Aabb;
-use arena_map::{ArenaMap, DEFAULT_DEPTH, MapLine};
+use arena_map::{ArenaMap, DEFAULT_BLOCKS, DEFAULT_DEPTH, MapLine};
 use box_trace::WALLS;
 use entity_recs::{Rec, body_box};
 use std::alloc::{AllocError, Global};
@@ -124,13 +124,32 @@ fn push_shots(text: &mut PlanText, map: &ArenaMap) -> Result<(), AllocError>
     text.push_line(&MapLine::Shots)
 }
 
-/// Puts the lines of a map last: the arena, the depth, shots, the blocks, the spawns, and the things by their ids.
+/// Puts the line of how many blocks there may be last, where they aren't as many as without it.
+fn push_limit(text: &mut PlanText, map: &ArenaMap) -> Result<(), AllocError>
+    ensures { OnOk result (text.new ≡ text.old ++ texts.limit_text map.now) }
+{
+    let most = map.most_blocks();
+    if most == DEFAULT_BLOCKS {
+        return Ok(());
+    }
+    text.push_line(&MapLine::Blocks(most))
+}
+
+/// Puts the lines of the settings last: the depth, shots, and how many blocks there may be.
+fn push_settings(text: &mut PlanText, map: &ArenaMap) -> Result<(), AllocError>
+    ensures { OnOk result (text.new ≡ text.old ++ texts.settings_text map.now) }
+{
+    push_depth(text, map)?;
+    push_shots(text, map)?;
+    push_limit(text, map)
+}
+
+/// Puts the lines of a map last: the arena, the settings, the blocks, the spawns, and the things by their ids.
 pub fn push_map(text: &mut PlanText, map: &ArenaMap) -> Result<(), AllocError>
     ensures { OnOk result (text.new ≡ text.old ++ texts.map_text map.now) }
 {
     push_arena(text, map)?;
-    push_depth(text, map)?;
-    push_shots(text, map)?;
+    push_settings(text, map)?;
     push_blocks(text, map)?;
     push_spawns(text, map)?;
     push_things(text, map)

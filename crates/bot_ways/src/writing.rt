@@ -19,7 +19,7 @@ use packet_read::Packet;
 use std::alloc::{AllocError, Global};
 
 /// The most bytes that are written of a plan, whatever the map.
-pub const MOST_PLAN_BYTES: usize = 123_417;
+pub const MOST_PLAN_BYTES: usize = 307_749;
 
 /// The text of a plan.
 fn plan_text(alloc: Global, map: &ArenaMap, plan: &Plan) -> Result<PlanText, AllocError>
@@ -38,7 +38,7 @@ fn plan_text(alloc: Global, map: &ArenaMap, plan: &Plan) -> Result<PlanText, All
 }
 
 // The text is put together in memory and written by one call, so that lack of memory comes before the first write. It
-// has at most 123,417 bytes.
+// has at most 307,749 bytes.
 /// Writes what a plan with a way comes to: a recording in which one bot walks along it, and after its line `end` the way,
 /// its length and the least lengths, which show that no way is shorter. A reader of recordings doesn't look there.
 ///

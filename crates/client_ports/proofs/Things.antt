@@ -18,7 +18,7 @@ use Rattle.entity_recs.specs.declared.rec.Rec.{Rec}
 use Rattle.entity_recs.specs.Bodies.{box_at_origin, body_of}
 use Rattle.entity_recs.specs.Kinds.{is_solid, is_item}
 use Rattle.arena_map.specs.declared.map_line.MapLine.{MapLine}
-use Rattle.arena_map.specs.declared.map_line.MapLine.TheVariants.{Arena, Block, Spawn, Item, Teleport, Goal, Lift, Depth, Shots}
+use Rattle.arena_map.specs.declared.map_line.MapLine.TheVariants.{Arena, Block, Spawn, Item, Teleport, Goal, Lift, Depth, Shots, Blocks}
 use Rattle.arena_map.specs.Positions.{shaft, shaft_of}
 use Rattle.arena_map.specs.Things.{record_of}
 use Rattle.arena_map.specs.Maps.{MapView, IsMap, IsThingInside}
@@ -111,6 +111,7 @@ solid-is_lift map records id r rules opening at solid = let f = found-in map id 
     by (Spawn at) inside low place is = let no_thing = inside.thing in cc
     by (Depth depth) inside low place is = let no_thing = inside.thing in cc
     by Shots inside low place is = let no_thing = inside.thing in cc
+    by (Blocks most) inside low place is = let no_thing = inside.thing in cc
     by (Item at kind delay) inside low place is = absurd (no-item kind inside.limits.1 (kind-of (Item at kind delay) is))
     by (Teleport lo hi dest) inside low at is = let no_solid = kind-of (Teleport lo hi dest) is in cc
     by (Goal lo hi) inside low at is = let no_solid = kind-of (Goal lo hi) is in cc
@@ -165,6 +166,7 @@ opening_clear map records rules opening = record {
         by (Spawn at) inside e = let no_thing = inside.thing in cc
         by (Depth depth) inside e = let no_thing = inside.thing in cc
         by Shots inside e = let no_thing = inside.thing in cc
+        by (Blocks most) inside e = let no_thing = inside.thing in cc
         by (Item at kind delay) inside e = no-item kind inside.limits.1 (ap is_solid (sym e))
         by (Teleport lo hi dest) inside e = cc
         by (Goal lo hi) inside e = cc

@@ -21,7 +21,7 @@ use Rattle.entity_recs.specs.declared.kind.Kind.{Kind}
 use Rattle.entity_recs.specs.declared.kind.Kind.TheVariants as kinds
 use Rattle.entity_recs.specs.Kinds.{is_item}
 use Rattle.arena_map.specs.declared.map_line.MapLine.{MapLine}
-use Rattle.arena_map.specs.declared.map_line.MapLine.TheVariants.{Arena, Block, Spawn, Item, Teleport, Goal, Lift, Depth, Shots}
+use Rattle.arena_map.specs.declared.map_line.MapLine.TheVariants.{Arena, Block, Spawn, Item, Teleport, Goal, Lift, Depth, Shots, Blocks}
 use Rattle.arena_map.specs.declared.map_word.MapWord.{MapWord}
 use Rattle.arena_map.specs.declared.map_word.MapWord.TheVariants as map_words
 use Rattle.arena_map.specs.MapLines.{IsWithinLimits}
@@ -155,6 +155,7 @@ word-ink map_words.Goal = search rules
 word-ink map_words.Lift = search rules
 word-ink map_words.Depth = search rules
 word-ink map_words.Shots = search rules
+word-ink map_words.Blocks = search rules
 
 small-abs : (z : ℤ) (n : ℕ) → pos 1 ≤ℤ z → z ≤ℤ pos n → n < 2 ^ 63 → unsigned_abs z < 2 ^ 64
 small-abs (pos m) n low high small = omega (arith, ints, low, high)
@@ -176,6 +177,7 @@ fields-ink (Lift lo hi rise speed) is =
     (field-ink _ (signed-ink speed (small-abs speed 2560 is.4 is.5 (omega arith))))
 fields-ink (Depth depth) is = field-ink _ (decimal-ink depth (omega (arith, is.most)))
 fields-ink Shots is = tt
+fields-ink (Blocks most) is = field-ink _ (decimal-ink most (omega (arith, is.most)))
 
 pub map_line-ink : (line : MapLine) → IsWithinLimits line → AreInk (map_line_text line)
 map_line-ink line is = ink-append (word_text (word_of line)) (fields_text line) (word-ink (word_of line)) (fields-ink line is)

@@ -6,7 +6,7 @@ use Rattle.demo_lines.specs.declared.line_fault.LineFault.{LineFault}
 use Rattle.demo_lines.specs.Known.{Reading, is_over}
 use Rattle.demo_lines.specs.Recording.{next, after_test}
 use Rattle.demo_lines.specs.Said.{stage_fault, after_said}
-use Rattle.demo_lines.proofs.Taking.{IsTaken}
+use Rattle.demo_lines.specs.Readings.{IsAllowedAt}
 use Rattle.demo_lines.proofs.MapGiven.{after_any_line}
 
 test-limit : (r : Reading) (fault : Option LineFault) (line : Line) → (after_test r fault (Some line)).limit ≡ r.limit
@@ -16,7 +16,7 @@ test-limit r None Frame = refl
 test-limit r None (From a) = refl
 test-limit r None End = refl
 
-said-limit : (r : Reading) (said : Result Line LineFault) → is_over r.stage ≡ false → IfOk said (IsTaken r.stage) → (after_said r said).limit ≡ r.limit
+said-limit : (r : Reading) (said : Result Line LineFault) → is_over r.stage ≡ false → IfOk said (IsAllowedAt r.stage) → (after_said r said).limit ≡ r.limit
 said-limit r (Ok line) going is = test-limit r (stage_fault r line) line
 said-limit r (Err why) going is = refl
 

@@ -10,7 +10,7 @@ use Rattle.demo_lines.specs.Readings.{IsReading}
 use Rattle.demo_lines.proofs.Ends.{after-over, next-counts, next-long}
 use Rattle.demo_lines.proofs.OnePass.{next-said}
 use Rattle.demo_lines.proofs.Taking.{GoesOn, said-goes_on, refusing-goes_on, some_lines_left}
-use Rattle.demo_lines.proofs.MapGiven.{line_said-taken}
+use Rattle.demo_lines.proofs.MapGiven.{line_said-placed}
 
 start-holds : IsReading start
 start-holds = record { map = (refl, refl, refl); limit = omega arith; frames = omega arith; arrivals = omega arith; lines = omega arith }
@@ -20,7 +20,7 @@ next-goes_on r raw true holds going is =
     let far : 512 < length raw = grind (arith, nat_tests) in
     subst (GoesOn (lines_left r)) (sym (next-long r raw going far)) (refusing-goes_on r faults.Long holds going)
 next-goes_on r raw false holds going is =
-    subst (GoesOn (lines_left r)) (sym (next-said r raw going is)) (said-goes_on r (line_said r.stage raw) holds going (line_said-taken r.stage raw))
+    subst (GoesOn (lines_left r)) (sym (next-said r raw going is)) (said-goes_on r (line_said r.stage raw) holds going (line_said-placed r.stage raw))
 
 -- lines that a recording isn't over after are counted, and what is known after them holds
 record Counted (r : Reading) (lines : List (List ℕ)) : Type 0 where

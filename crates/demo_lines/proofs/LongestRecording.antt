@@ -13,7 +13,7 @@ use Rattle.arena_geo.specs.declared.vec3.Vec3.{Vec3}
 use Rattle.arena_geo.specs.Bounds.{Bounds}
 use Rattle.arena_geo.specs.Boxes.{overlaps, overlaps_on, is_blocked}
 use Rattle.entity_recs.specs.declared.kind.Kind.TheVariants.{Gem}
-use Rattle.arena_map.specs.declared.limits.TheConstants.{DEFAULT_DEPTH, MOST_ITEMS, MOST_THINGS}
+use Rattle.arena_map.specs.declared.limits.TheConstants.{DEFAULT_DEPTH, MOST_BLOCKS, MOST_ITEMS, MOST_THINGS}
 use Rattle.arena_map.specs.declared.map_line.MapLine.{MapLine}
 use Rattle.arena_map.specs.declared.map_line.MapLine.TheVariants.{Item, Teleport, Goal, Lift}
 use Rattle.arena_map.specs.MapLines.{is_item_line, is_teleport_line, is_goal_line, is_lift_line}
@@ -259,11 +259,11 @@ shafts-of-things =
     ∙ ap (λ xs. xs ++ filter_map shaft_of (lifts 16)) (no_shafts 16 some_goal refl)
     ∙ shafts-are 16
 
--- the least arena, as many blocks, spawns and things as there may be, a line that names the depth and one that lets players
--- shoot
+-- the least arena, as many blocks, spawns and things as there may be, a line that names the depth, one that lets players
+-- shoot and one that says how many blocks there may be
 longest_map : MapView
 longest_map =
-    map_of small_map.bounds (copies 1024 small_block) (copies 64 small_spawn) most_things (record { depth = DEFAULT_DEPTH; names_depth = true; shots = true })
+    map_of small_map.bounds (copies 4096 small_block) (copies 64 small_spawn) most_things (record { depth = DEFAULT_DEPTH; names_depth = true; shots = true; most_blocks = MOST_BLOCKS; names_blocks = true })
 
 -- as many frames as there may be, each with as many packets as it may have, all of them the same
 longest_frames : List (List Arrival)
@@ -276,8 +276,8 @@ longest_is_map = record {
   lo = small_is_map.lo;
   hi = small_is_map.hi;
   wide = small_is_map.wide;
-  blocks = All-from_recursion (IsBlock small_map.bounds) (copies 1024 small_block) (all-copies (IsBlock small_map.bounds) 1024 small_block small_block_is);
-  few_blocks = omega (arith, length-copies 1024 small_block);
+  blocks = All-from_recursion (IsBlock small_map.bounds) (copies 4096 small_block) (all-copies (IsBlock small_map.bounds) 4096 small_block small_block_is);
+  few_blocks = omega (arith, length-copies 4096 small_block);
   spawns = All-from_recursion (IsSpawn small_map.bounds) (copies 64 small_spawn) (all-copies (IsSpawn small_map.bounds) 64 small_spawn small_spawn_is);
   few_spawns = omega (arith, length-copies 64 small_spawn);
   things = All-from_recursion (IsThingInside small_map.bounds) most_things things-inside;
@@ -285,14 +285,20 @@ longest_is_map = record {
   few_teleporters = omega (arith, count-things is_teleport_line 0 1 0 0 refl refl refl (λ k. refl));
   few_goals = omega (arith, count-things is_goal_line 0 0 1 0 refl refl refl (λ k. refl));
   few_lifts = omega (arith, count-things is_lift_line 0 0 0 1 refl refl refl (λ k. refl));
-  clear_shafts = subst (All (λ s. is_blocked s (copies 1024 small_block) ≡ false)) (sym shafts-of-things)
-      (All-from_recursion (λ s. is_blocked s (copies 1024 small_block) ≡ false) (shafts 16)
-      (all-shafts (λ s. is_blocked s (copies 1024 small_block) ≡ false) 16 (λ k below. free-copies 1024 (shaft_at k) small_block (free_of_block k))));
+  clear_shafts = subst (All (λ s. is_blocked s (copies 4096 small_block) ≡ false)) (sym shafts-of-things)
+      (All-from_recursion (λ s. is_blocked s (copies 4096 small_block) ≡ false) (shafts 16)
+      (all-shafts (λ s. is_blocked s (copies 4096 small_block) ≡ false) 16 (λ k below. free-copies 4096 (shaft_at k) small_block (free_of_block k))));
   shafts_apart = subst (AllPairs (λ one other. overlaps one other ≡ false)) (sym shafts-of-things) (shafts_apart 16);
   depth = record { least = omega arith; most = omega arith };
   few_depth_lines = omega arith;
   default_depth = λ none. refl;
   shots_line = refl;
+  limit = record {
+    range = record { least = omega arith; most = omega arith };
+    few_lines = omega arith;
+    default = λ none. absurd (omega (arith, none));
+    first = refl;
+  };
 }
 
 frame_is : IsFrame (copies 512 small_arrival)
@@ -315,7 +321,7 @@ unfolding longest_map longest_frames
 longest_lines =
     let frames = flat_map frame_lines longest_frames in
     let spawns = map spawn_line (copies 64 small_spawn) in
-    let blocks = map block_line (copies 1024 small_block) in
+    let blocks = map block_line (copies 4096 small_block) in
     let things = map OfMap most_things in
     omega (
       arith,
@@ -329,8 +335,8 @@ longest_lines =
       length-append blocks things,
       length-map (copies 64 small_spawn) spawn_line,
       length-copies 64 small_spawn,
-      length-map (copies 1024 small_block) block_line,
-      length-copies 1024 small_block,
+      length-map (copies 4096 small_block) block_line,
+      length-copies 4096 small_block,
       length-map most_things OfMap,
       length-things,
     )

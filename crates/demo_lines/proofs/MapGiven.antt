@@ -5,6 +5,7 @@ use Rattle.std.proofs.lemmas.Bool.Decides.{nat_tests}
 use Rattle.edge_io.specs.Numbers.{natural_up_to}
 use Rattle.arena_map.specs.declared.map_line.MapLine.{MapLine}
 use Rattle.arena_map.specs.declared.map_fault.MapFault.TheVariants as rules
+use Rattle.arena_map.specs.MapLines.{IsWithinLimits}
 use Rattle.demo_lines.specs.declared.stage.Stage.{Stage}
 use Rattle.demo_lines.specs.declared.stage.Stage.TheVariants.{Start, Map, Playing, Ended, Refused}
 use Rattle.demo_lines.specs.declared.word.Word.{Word}
@@ -20,66 +21,69 @@ use Rattle.demo_lines.specs.Lines.{text_of, are_printable, first_word, rest_of, 
 use Rattle.demo_lines.specs.Faults.{is_long, has_spawn, fault_of}
 use Rattle.demo_lines.specs.Recording.{next, after_test, events_of_test, events_of_line, after, events_of}
 use Rattle.demo_lines.specs.Said.{of_map, map_line_said, packet_said, port_said, from_said, first_said, line_said, stage_fault, after_said}
-use Rattle.demo_lines.specs.Readings.{IsReading, IsOfMap, HasMap}
+use Rattle.demo_lines.specs.Readings.{IsReading, IsOfMap, IsAllowedAt, HasMap}
 use Rattle.demo_lines.specs.Reads.{KeepsMap}
 use Rattle.demo_lines.specs.Laws.{NothingNeedsTheMap, MemoryIsForTheMap}
 use Rattle.demo_lines.proofs.Ends.{next-over, next-long, events_of_line-over, fault_of-long}
 use Rattle.demo_lines.proofs.OnePass.{next-said, fault-said, fault_said}
-use Rattle.demo_lines.proofs.MapWords.{if_ok-here}
-use Rattle.demo_lines.proofs.Taking.{IsTaken}
+use Rattle.demo_lines.proofs.MapWords.{if_ok-placed}
+use Rattle.demo_lines.proofs.Taking.{IsTaken, if_ok-taken}
 
 -- ---- what is said may be taken
 
-of_map-taken : (stage : Stage) (said : Result MapLine LineFault) → IfOk said (IsOfMap stage) → IfOk (of_map said) (IsTaken stage)
+of_map-taken : (stage : Stage) (said : Result MapLine LineFault) → IfOk said (λ line. IsWithinLimits line × IsOfMap stage line) → IfOk (of_map said) (IsAllowedAt stage)
 of_map-taken stage (Ok line) is = is
 of_map-taken stage (Err why) is = tt
 
-bare-taken : (stage : Stage) (form here : Bool) (line : Line) → (here ≡ true → IsTaken stage line)
-    → IfOk (cond form (cond here (Ok line) (Err faults.NotAllowed)) (Err faults.Form)) (IsTaken stage)
+bare-taken : (stage : Stage) (form here : Bool) (line : Line) → (here ≡ true → IsAllowedAt stage line)
+    → IfOk (cond form (cond here (Ok line) (Err faults.NotAllowed)) (Err faults.Form)) (IsAllowedAt stage)
 bare-taken stage false here line is = tt
 bare-taken stage true false line is = tt
 bare-taken stage true true line is = is refl
 
-packet-taken : (stage : Stage) (bytes : Option (List ℕ)) (port : ℕ) → is_allowed stage words.From ≡ true → IfOk (packet_said bytes port) (IsTaken stage)
+packet-taken : (stage : Stage) (bytes : Option (List ℕ)) (port : ℕ) → is_allowed stage words.From ≡ true → IfOk (packet_said bytes port) (IsAllowedAt stage)
 packet-taken stage None port here = tt
 packet-taken stage (Some bytes) port here = here
 
-port-taken : (stage : Stage) (port : Option ℕ) (packet : List ℕ) → is_allowed stage words.From ≡ true → IfOk (port_said port packet) (IsTaken stage)
+port-taken : (stage : Stage) (port : Option ℕ) (packet : List ℕ) → is_allowed stage words.From ≡ true → IfOk (port_said port packet) (IsAllowedAt stage)
 port-taken stage None packet here = tt
 port-taken stage (Some port) packet here = packet-taken stage (packet_bytes packet) port here
 
-allowed-taken : (stage : Stage) (here : Bool) (said : Result Line LineFault) → (here ≡ true → IfOk said (IsTaken stage)) → IfOk (cond here said (Err faults.NotAllowed)) (IsTaken stage)
+allowed-taken : (stage : Stage) (here : Bool) (said : Result Line LineFault) → (here ≡ true → IfOk said (IsAllowedAt stage)) → IfOk (cond here said (Err faults.NotAllowed)) (IsAllowedAt stage)
 allowed-taken stage true said is = is refl
 allowed-taken stage false said is = tt
 
-from-taken : (stage : Stage) (fields : Option (List ℕ × List ℕ)) → IfOk (from_said stage fields) (IsTaken stage)
+from-taken : (stage : Stage) (fields : Option (List ℕ × List ℕ)) → IfOk (from_said stage fields) (IsAllowedAt stage)
 from-taken stage None = tt
 from-taken stage (Some fields) =
     allowed-taken stage (is_allowed stage words.From) (port_said (natural_up_to 65535 fields.0) fields.1) (port-taken stage (natural_up_to 65535 fields.0) fields.1)
 
-first-taken : (stage : Stage) (first : Option Word) (rest : List ℕ) → IfOk (first_said stage first rest) (IsTaken stage)
+first-taken : (stage : Stage) (first : Option Word) (rest : List ℕ) → IfOk (first_said stage first rest) (IsAllowedAt stage)
 first-taken stage None rest = tt
-first-taken stage (Some (words.OfMap word)) rest = of_map-taken stage (map_line_said stage word rest) (if_ok-here stage word rest (map_line_said stage word rest) refl)
+first-taken stage (Some (words.OfMap word)) rest = of_map-taken stage (map_line_said stage word rest) (if_ok-placed stage word rest (map_line_said stage word rest) refl)
 first-taken stage (Some words.Frame) rest = bare-taken stage (is_nothing rest) (is_allowed stage words.Frame) Frame (λ here. here)
 first-taken stage (Some words.From) rest = from-taken stage (from_fields rest)
 first-taken stage (Some words.End) rest = bare-taken stage (is_nothing rest) (is_allowed stage words.End) End (λ here. here)
 
-text-taken : (stage : Stage) (printable : Bool) (first : Option Word) (rest : List ℕ) → IfOk (cond printable (first_said stage first rest) (Err faults.Byte)) (IsTaken stage)
+text-taken : (stage : Stage) (printable : Bool) (first : Option Word) (rest : List ℕ) → IfOk (cond printable (first_said stage first rest) (Err faults.Byte)) (IsAllowedAt stage)
 text-taken stage true first rest = first-taken stage first rest
 text-taken stage false first rest = tt
 
+pub line_said-placed : (stage : Stage) (raw : List ℕ) → IfOk (line_said stage raw) (IsAllowedAt stage)
+line_said-placed stage raw = text-taken stage (are_printable (text_of raw)) (first_word (text_of raw)) (rest_of (text_of raw))
+
 pub line_said-taken : (stage : Stage) (raw : List ℕ) → IfOk (line_said stage raw) (IsTaken stage)
-line_said-taken stage raw = text-taken stage (are_printable (text_of raw)) (first_word (text_of raw)) (rest_of (text_of raw))
+line_said-taken stage raw = if_ok-taken stage (line_said stage raw) (line_said-placed stage raw)
 
 -- ---- one more line, whatever it is
 
 -- after any line: it is ignored, too long, or says something or has a fault of its own
 module _ (P : Reading → Reading → Type 0) (over : (r : Reading) → is_over r.stage ≡ true → P r r)
     (long : (r : Reading) → is_over r.stage ≡ false → P r (at_stage (Refused faults.Long) r))
-    (said : (r : Reading) (said : Result Line LineFault) → is_over r.stage ≡ false → IfOk said (IsTaken r.stage) → P r (after_said r said)) where
+    (said : (r : Reading) (said : Result Line LineFault) → is_over r.stage ≡ false → IfOk said (IsAllowedAt r.stage) → P r (after_said r said)) where
   by_length : (r : Reading) (raw : List ℕ) (b : Bool) → is_over r.stage ≡ false → is_long raw ≡ b → P r (next r raw)
   by_length r raw true going is = let far : 512 < length raw = grind (arith, nat_tests) in subst (P r) (sym (next-long r raw going far)) (long r going)
-  by_length r raw false going is = subst (P r) (sym (next-said r raw going is)) (said r (line_said r.stage raw) going (line_said-taken r.stage raw))
+  by_length r raw false going is = subst (P r) (sym (next-said r raw going is)) (said r (line_said r.stage raw) going (line_said-placed r.stage raw))
 
   by_stage : (r : Reading) (raw : List ℕ) (b : Bool) → is_over r.stage ≡ b → P r (next r raw)
   by_stage r raw true is = subst (P r) (sym (next-over r raw is)) (over r is)
@@ -102,14 +106,14 @@ of_map-none Playing line A whole is = absurd is
 of_map-none Ended line A whole is = absurd is
 of_map-none (Refused why) line A whole is = absurd is
 
-test-stays : (r : Reading) (fault : Option LineFault) (line : Line) → IsTaken r.stage line → Stays r (after_test r fault (Some line))
+test-stays : (r : Reading) (fault : Option LineFault) (line : Line) → IsAllowedAt r.stage line → Stays r (after_test r fault (Some line))
 test-stays r (Some why) line is = record { whole = λ h. refl; kept = λ h. refl }
-test-stays r None (OfMap line) is = record { whole = λ h. of_map-none r.stage line _ h is; kept = λ h. of_map-none r.stage line _ h is }
+test-stays r None (OfMap line) is = record { whole = λ h. of_map-none r.stage line _ h is.1; kept = λ h. of_map-none r.stage line _ h is.1 }
 test-stays r None Frame is = record { whole = λ h. refl; kept = λ h. refl }
 test-stays r None (From a) is = record { whole = λ h. refl; kept = λ h. refl }
 test-stays r None End is = record { whole = λ h. refl; kept = λ h. refl }
 
-said-stays : (r : Reading) (said : Result Line LineFault) → is_over r.stage ≡ false → IfOk said (IsTaken r.stage) → Stays r (after_said r said)
+said-stays : (r : Reading) (said : Result Line LineFault) → is_over r.stage ≡ false → IfOk said (IsAllowedAt r.stage) → Stays r (after_said r said)
 said-stays r (Ok line) going is = test-stays r (stage_fault r line) line is
 said-stays r (Err why) going is = record { whole = λ h. refl; kept = λ h. refl }
 
@@ -133,21 +137,21 @@ frame-fault r b whole =
     option_or (option_map faults.Rule (cond w None (cond there None (Some rules.NoSpawn)))) (cond (nat_le r.limit r.frames) (Some faults.Count) None) in
     ap (λ w. Fault w false) whole ∙ sym (ap (λ w. Fault w (has_spawn r.map)) whole)
 
-test-without : (r : Reading) (fault : Option LineFault) (line : Line) → IsTaken r.stage line → is_map_whole r.stage ≡ true
+test-without : (r : Reading) (fault : Option LineFault) (line : Line) → IsAllowedAt r.stage line → is_map_whole r.stage ≡ true
     → after_test (without_map r) fault (Some line) ≡ without_map (after_test r fault (Some line))
 test-without r (Some why) line is whole = refl
-test-without r None (OfMap line) is whole = of_map-none r.stage line _ whole is
+test-without r None (OfMap line) is whole = of_map-none r.stage line _ whole is.1
 test-without r None Frame is whole = refl
 test-without r None (From a) is whole = refl
 test-without r None End is whole = refl
 
-same-fault : (r : Reading) (line : Line) → IsTaken r.stage line → is_map_whole r.stage ≡ true → stage_fault (without_map r) line ≡ stage_fault r line
-same-fault r (OfMap line) is whole = of_map-none r.stage line _ whole is
+same-fault : (r : Reading) (line : Line) → IsAllowedAt r.stage line → is_map_whole r.stage ≡ true → stage_fault (without_map r) line ≡ stage_fault r line
+same-fault r (OfMap line) is whole = of_map-none r.stage line _ whole is.1
 same-fault r Frame is whole = frame-fault r true whole
 same-fault r (From a) is whole = refl
 same-fault r End is whole = refl
 
-said-without : (r : Reading) (said : Result Line LineFault) → IfOk said (IsTaken r.stage) → is_map_whole r.stage ≡ true
+said-without : (r : Reading) (said : Result Line LineFault) → IfOk said (IsAllowedAt r.stage) → is_map_whole r.stage ≡ true
     → after_said (without_map r) said ≡ without_map (after_said r said)
 said-without r (Ok line) is whole = ap (λ f. after_test (without_map r) f (Some line)) (same-fault r line is whole) ∙ test-without r (stage_fault r line) line is whole
 said-without r (Err why) is whole = refl
@@ -157,7 +161,7 @@ pub record SameWithout (r : Reading) (raw : List ℕ) : Type 0 where
   pub reached : next (without_map r) raw ≡ without_map (next r raw)
   pub fault : is_over r.stage ≡ false → fault_of (without_map r) false raw ≡ fault_of r false raw
 
-fault-without : (r : Reading) (said : Result Line LineFault) → IfOk said (IsTaken r.stage) → is_map_whole r.stage ≡ true → fault_said (without_map r) said ≡ fault_said r said
+fault-without : (r : Reading) (said : Result Line LineFault) → IfOk said (IsAllowedAt r.stage) → is_map_whole r.stage ≡ true → fault_said (without_map r) said ≡ fault_said r said
 fault-without r (Ok line) is whole = same-fault r line is whole
 fault-without r (Err why) is whole = refl
 
@@ -169,7 +173,7 @@ without-long r raw true whole going is =
       fault = λ h. fault_of-long (without_map r) false raw far ∙ sym (fault_of-long r false raw far);
     }
 without-long r raw false whole going is =
-    let taken = line_said-taken r.stage raw in
+    let taken = line_said-placed r.stage raw in
     record {
       reached = next-said (without_map r) raw going is ∙ said-without r (line_said r.stage raw) taken whole ∙ ap without_map (sym (next-said r raw going is));
       fault = λ h. fault-said (without_map r) raw is ∙ fault-without r (line_said r.stage raw) taken whole ∙ sym (fault-said r raw is);
@@ -230,14 +234,14 @@ started word later Playing here is = cc
 started word later Ended here is = cc
 started word later (Refused why) here is = cc
 
-test-there : (r : Reading) (fault : Option LineFault) (line : Line) → IsTaken r.stage line → IsThere r (after_test r fault (Some line))
+test-there : (r : Reading) (fault : Option LineFault) (line : Line) → IsAllowedAt r.stage line → IsThere r (after_test r fault (Some line))
 test-there r (Some why) line is = record { there = λ has h fine whole. cc }
 test-there r None (OfMap line) is = record { there = λ has h fine whole. cc }
 test-there r None Frame is = record { there = λ has h fine whole. map-there r.stage r h has (started words.Frame refl r.stage is) }
 test-there r None (From a) is = record { there = λ has h fine whole. map-there r.stage r h has (started words.From refl r.stage is) }
 test-there r None End is = record { there = λ has h fine whole. map-there r.stage r h has (started words.End refl r.stage is) }
 
-said-there : (r : Reading) (said : Result Line LineFault) → is_over r.stage ≡ false → IfOk said (IsTaken r.stage) → IsThere r (after_said r said)
+said-there : (r : Reading) (said : Result Line LineFault) → is_over r.stage ≡ false → IfOk said (IsAllowedAt r.stage) → IsThere r (after_said r said)
 said-there r (Ok line) going is = test-there r (stage_fault r line) line is
 said-there r (Err why) going is = record { there = λ has h fine whole. cc }
 

@@ -3,10 +3,10 @@ use Rattle.std.proofs.Common.{◌≡◌, ℕ, Bool, true, false, not, List, [], 
 use Rattle.std.specs.Option.{ok_or}
 use Rattle.edge_io.specs.Fields.{◌>>=◌}
 use Rattle.arena_map.specs.declared.map_line.MapLine.{MapLine}
-use Rattle.arena_map.specs.declared.map_line.MapLine.TheVariants.{Arena, Block, Spawn, Item, Teleport, Goal, Lift, Depth, Shots}
+use Rattle.arena_map.specs.declared.map_line.MapLine.TheVariants.{Arena, Block, Spawn, Item, Teleport, Goal, Lift, Depth, Shots, Blocks}
 use Rattle.arena_map.specs.declared.map_word.MapWord.{MapWord}
 use Rattle.arena_map.specs.declared.map_word.MapWord.TheVariants as map_words
-use Rattle.arena_map.specs.MapLines.{is_arena}
+use Rattle.arena_map.specs.MapLines.{IsWithinLimits, is_arena}
 use Rattle.arena_map.specs.Words.{fields_of}
 use Rattle.arena_map.specs.Reading.{line_at_end, corners_at, point_at, kind_at, count_at, has_fields, line_within, line_of_first}
 use Rattle.demo_lines.specs.declared.stage.Stage.{Stage}
@@ -17,6 +17,7 @@ use Rattle.demo_lines.specs.declared.line_fault.LineFault.TheVariants as faults
 use Rattle.demo_lines.specs.Words.{is_arena_word, is_allowed}
 use Rattle.demo_lines.specs.Said.{in_order, map_line_said}
 use Rattle.demo_lines.specs.Readings.{IsOfMap}
+use Rattle.arena_map.proofs.LinesSound.{within-read}
 
 -- ---- a line's kind is its word's
 
@@ -58,6 +59,8 @@ within-kind map_words.Lift rest =
 within-kind map_words.Depth rest =
     then-kind _ (λ (d : ℕ × List ℕ). line_at_end (Depth d.0) d.1) false (λ d. alone-kind (Depth d.0) d.1 false refl)
 within-kind map_words.Shots rest = alone-kind Shots rest false refl
+within-kind map_words.Blocks rest =
+    then-kind _ (λ (m : ℕ × List ℕ). line_at_end (Blocks m.0) m.1) false (λ m. alone-kind (Blocks m.0) m.1 false refl)
 
 arena-here : (stage : Stage) (word : MapWord) (line : MapLine) → is_allowed stage (words.OfMap word) ≡ true → is_arena line ≡ is_arena_word word → IsOfMap stage line
 arena-here Start word line here kind = kind ∙ here
@@ -84,6 +87,18 @@ pub map_line-here : (stage : Stage) (word : MapWord) (rest : List ℕ) (line : M
 map_line-here stage word rest line h =
     said-parts stage word (has_fields (fields_of word) rest) (is_allowed stage (words.OfMap word)) (line_within word rest) line refl (within-kind word rest) h
 
+-- and its numbers are within their limits
+said-within : (form here : Bool) (within : Option MapLine) (line : MapLine)
+    → cond form (cond here (ok_or within faults.Limit) (Err faults.NotAllowed)) (Err faults.Form) ≡ Ok line → within ≡ Some line
+said-within false here within line h = cc
+said-within true false within line h = cc
+said-within true true None line h = cc
+said-within true true (Some l) line h = cc
+
+map_line-within : (stage : Stage) (word : MapWord) (rest : List ℕ) (line : MapLine) → map_line_said stage word rest ≡ Ok line → IsWithinLimits line
+map_line-within stage word rest line h =
+    (within-read word rest line (said-within (has_fields (fields_of word) rest) (is_allowed stage (words.OfMap word)) (line_within word rest) line h)).limits
+
 -- ---- the answer of reading a map line, in the order of the faults
 
 ordered : (form here : Bool) (within : Option MapLine)
@@ -103,3 +118,8 @@ map_line-in_order stage word first rest is =
 pub if_ok-here : (stage : Stage) (word : MapWord) (rest : List ℕ) (read : Result MapLine LineFault) → read ≡ map_line_said stage word rest → IfOk read (IsOfMap stage)
 if_ok-here stage word rest (Ok line) is = map_line-here stage word rest line (sym is)
 if_ok-here stage word rest (Err why) is = tt
+
+pub if_ok-placed : (stage : Stage) (word : MapWord) (rest : List ℕ) (read : Result MapLine LineFault) → read ≡ map_line_said stage word rest
+    → IfOk read (λ line. IsWithinLimits line × IsOfMap stage line)
+if_ok-placed stage word rest (Ok line) is = (map_line-within stage word rest line (sym is), map_line-here stage word rest line (sym is))
+if_ok-placed stage word rest (Err why) is = tt

@@ -20,9 +20,9 @@ use Rattle.arena_geo.specs.Vectors.{IsNear}
 use Rattle.arena_geo.specs.Bounds.{Bounds}
 use Rattle.arena_geo.specs.Boxes.{contains, contains_on, overlaps, is_blocked}
 use Rattle.arena_geo.proofs.Containment.{three_pass}
-use Rattle.arena_map.specs.declared.limits.TheConstants.{MOST_BLOCKS, MOST_BOXES, MOST_ITEMS, MOST_SPAWNS}
+use Rattle.arena_map.specs.declared.limits.TheConstants.{DEFAULT_BLOCKS, MOST_BOXES, MOST_ITEMS, MOST_SPAWNS}
 use Rattle.arena_map.specs.declared.map_line.MapLine.{MapLine}
-use Rattle.arena_map.specs.declared.map_line.MapLine.TheVariants.{Arena, Block, Spawn, Item, Teleport, Goal, Lift, Depth, Shots}
+use Rattle.arena_map.specs.declared.map_line.MapLine.TheVariants.{Arena, Block, Spawn, Item, Teleport, Goal, Lift, Depth, Shots, Blocks}
 use Rattle.arena_map.specs.declared.map_fault.MapFault.TheVariants as fault
 use Rattle.arena_map.specs.Positions.{is_thick, shaft, shaft_of, keeps_box, keeps_stand, keeps_item, keeps_travel}
 use Rattle.arena_map.specs.MapLines.{is_thing_line, is_arena, is_item_line, is_teleport_line, is_goal_line, is_lift_line}
@@ -40,14 +40,14 @@ use Rattle.demo_lines.specs.Known.{Reading, start, is_over, is_refused, with_fra
 use Rattle.demo_lines.specs.Recording.{next, after_line, after_test, event_of, events_of_line, after, events_of}
 use Rattle.demo_lines.specs.Said.{stage_fault, after_said}
 use Rattle.demo_lines.specs.Bytes.{last_part, lines_of, refused_where}
-use Rattle.demo_lines.specs.Spelling.{line_text, IsArrival, IsLine, arena_line, block_line, spawn_line, depth_lines_of, shots_lines_of, setting_lines, map_lines, frame_lines, recording_lines, recording_text, frame_events, recording_events, IsFrame, IsRecording}
+use Rattle.demo_lines.specs.Spelling.{line_text, IsArrival, IsLine, arena_line, block_line, spawn_line, depth_lines_of, shots_lines_of, limit_lines_of, setting_lines, map_lines, frame_lines, recording_lines, recording_text, frame_events, recording_events, IsFrame, IsRecording}
 use Rattle.demo_lines.specs.InTurn.{AreAccepted, map_in_turn, lines_in_turn, text_in_turn, IsBuilt}
 use Rattle.demo_lines.specs.Laws.{IsTextOf}
 use Rattle.demo_lines.proofs.Machines.{run_of-append, outputs_of-append}
 use Rattle.demo_lines.proofs.OnePass.{next-short, events-short}
 use Rattle.demo_lines.proofs.Parts.{lines_of-unlines}
-use Rattle.demo_lines.proofs.Taking.{IsTaken}
 use Rattle.demo_lines.proofs.Ink.{one_line}
+use Rattle.demo_lines.proofs.Taking.{IsTaken}
 use Rattle.demo_lines.proofs.Written.{line_reads, line_said-back}
 
 -- written lines lead from a reading to one of some readings, and give these events
@@ -174,13 +174,13 @@ all-at P xs s ys all =
     rw (get_or-append_seam xs s ys s) at (all (length xs) s longer)
 
 module _ (full : MapView) (lo : IsNear 1048576 full.bounds.lo) (hi : IsNear 1048576 full.bounds.hi) where
-  goes_block : (spawns : List Vec3) (done : List Bounds) (b : Bounds) (n : ℕ) → IsBlock full.bounds b → length done < MOST_BLOCKS
+  goes_block : (spawns : List Vec3) (done : List Bounds) (b : Bounds) (n : ℕ) → IsBlock full.bounds b → length done < full.most_blocks
       → Goes (mapping (filled full done spawns []) n) (block_line b ∷ []) (mapping (filled full (done ++ b ∷ []) spawns [])) []
   goes_block spawns done b n is few =
       let m = filled full done spawns [] in
       let keeps : KeepsAll m (Block b.lo b.hi) = record {
         inside = and_from (is_thick b.lo b.hi) (contains full.bounds b) is.thick is.inside;
-        count = lt-ltb (length done) MOST_BLOCKS few;
+        count = lt-ltb (length done) full.most_blocks few;
         stand = refl;
         item = refl;
         travel = refl;
@@ -189,7 +189,7 @@ module _ (full : MapView) (lo : IsNear 1048576 full.bounds.lo) (hi : IsNear 1048
       goes-line (mapping m n) (block_line b) (mapping (filled full (done ++ b ∷ []) spawns [])) (n + 1) (block_near full.bounds b lo hi is) refl refl
       (kept-fault m (Block b.lo b.hi) keeps) refl
 
-  goes_blocks : (spawns : List Vec3) (done blocks : List Bounds) (n : ℕ) → AllByRecursion (IsBlock full.bounds) blocks → length done + length blocks ≤ MOST_BLOCKS
+  goes_blocks : (spawns : List Vec3) (done blocks : List Bounds) (n : ℕ) → AllByRecursion (IsBlock full.bounds) blocks → length done + length blocks ≤ full.most_blocks
       → Goes (mapping (filled full done spawns []) n) (map block_line blocks) (mapping (filled full (done ++ blocks) spawns [])) []
   goes_blocks spawns done [] n each few =
       let P : List Bounds → Type 0 = λ bs. Goes (mapping (filled full done spawns []) n) [] (mapping (filled full bs spawns [])) [] in
@@ -197,7 +197,7 @@ module _ (full : MapView) (lo : IsNear 1048576 full.bounds.lo) (hi : IsNear 1048
   goes_blocks spawns done (b ∷ blocks) n each few =
       let r = mapping (filled full done spawns []) n in
       let P : List Bounds → Type 0 = λ bs. Goes r (map block_line (b ∷ blocks)) (mapping (filled full bs spawns [])) [] in
-      let fewer : length (done ++ b ∷ []) + length blocks ≤ MOST_BLOCKS = grind (arith, length-append) in
+      let fewer : length (done ++ b ∷ []) + length blocks ≤ full.most_blocks = grind (arith, length-append) in
       subst P (append_assoc done (b ∷ []) blocks)
       (goes-then r (block_line b ∷ []) (map block_line blocks) (mapping (filled full (done ++ b ∷ []) spawns [])) (mapping (filled full (done ++ b ∷ [] ++ blocks) spawns [])) [] []
       (goes_block spawns done b n each.0 (omega arith)) (λ k. goes_blocks spawns (done ++ b ∷ []) blocks k each.1 fewer))
@@ -225,13 +225,24 @@ module _ (full : MapView) (lo : IsNear 1048576 full.bounds.lo) (hi : IsNear 1048
 -- ---- the settings
 
 -- the map of an arena with these settings and nothing in it
-abbrev pub set : Bounds → ℕ → ℕ → Bool → ℕ → MapView
-set arena depth depth_lines shots shots_lines =
-    record (plain_map arena [] [] []) { depth = depth; depth_lines = depth_lines; shots = shots; shots_lines = shots_lines }
+abbrev pub set : Bounds → ℕ → ℕ → Bool → ℕ → ℕ → ℕ → MapView
+set arena depth depth_lines shots shots_lines most_blocks limit_lines =
+    record (plain_map arena [] [] []) {
+      depth = depth;
+      depth_lines = depth_lines;
+      shots = shots;
+      shots_lines = shots_lines;
+      most_blocks = most_blocks;
+      limit_lines = limit_lines;
+    }
 
 -- with the depth alone
 abbrev deep : MapView → MapView
-deep full = set full.bounds full.depth full.depth_lines false 0
+deep full = set full.bounds full.depth full.depth_lines false 0 DEFAULT_BLOCKS 0
+
+-- with the depth, and with shots where players can shoot
+abbrev armed : MapView → MapView
+armed full = set full.bounds full.depth full.depth_lines full.shots full.shots_lines DEFAULT_BLOCKS 0
 
 one-line : (n : ℕ) → n ≤ 1 → (n == 0) ≡ false → 1 ≡ n
 one-line n few h = grind (arith, nat_tests)
@@ -246,40 +257,70 @@ goes_depth full n is = by (full.depth_lines == 0) refl
         let none = none_yet full.depth_lines h in
         let P : MapView → Type 0 = λ m. Goes (mapping (plain_map full.bounds [] [] []) n) [] (mapping m) [] in
         let same : plain_map full.bounds [] [] [] ≡ deep full =
-        ap (λ d. set full.bounds d 0 false 0) (sym (is.default_depth none)) ∙ ap (λ l. set full.bounds full.depth l false 0) (sym none) in
+        ap (λ d. set full.bounds d 0 false 0 DEFAULT_BLOCKS 0) (sym (is.default_depth none))
+        ∙ ap (λ l. set full.bounds full.depth l false 0 DEFAULT_BLOCKS 0) (sym none) in
         subst P same (record { at = n; each = tt; reached = refl; events = refl })
     by false h =
         let bare = plain_map full.bounds [] [] [] in
         let line = Depth full.depth in
         let keeps : KeepsAll bare line = record { inside = refl; count = refl; stand = refl; item = refl; travel = refl; shafts = refl } in
         goes-line (mapping bare n) (OfMap line) (mapping (deep full)) (n + 1) is.depth refl refl (kept-fault bare line keeps)
-        (ap (λ l. mapping (set full.bounds full.depth l false 0) (n + 1)) (one-line full.depth_lines is.few_depth_lines h))
+        (ap (λ l. mapping (set full.bounds full.depth l false 0 DEFAULT_BLOCKS 0) (n + 1)) (one-line full.depth_lines is.few_depth_lines h))
 
 goes_shots : (full : MapView) (n : ℕ) → IsMap full
-    → Goes (mapping (deep full) n) (map OfMap (shots_lines_of full)) (mapping (filled full [] [] [])) []
+    → Goes (mapping (deep full) n) (map OfMap (shots_lines_of full)) (mapping (armed full)) []
 goes_shots full n is = by full.shots refl
   where
     settings_are : (shots : Bool) → full.shots ≡ shots
-        → set full.bounds full.depth full.depth_lines shots (cond shots 1 0) ≡ filled full [] [] []
+        → set full.bounds full.depth full.depth_lines shots (cond shots 1 0) DEFAULT_BLOCKS 0 ≡ armed full
     settings_are shots h =
-        ap (λ b. set full.bounds full.depth full.depth_lines b (cond b 1 0)) (sym h)
-        ∙ ap (λ l. set full.bounds full.depth full.depth_lines full.shots l) (sym is.shots_line)
+        ap (λ b. set full.bounds full.depth full.depth_lines b (cond b 1 0) DEFAULT_BLOCKS 0) (sym h)
+        ∙ ap (λ l. set full.bounds full.depth full.depth_lines full.shots l DEFAULT_BLOCKS 0) (sym is.shots_line)
 
     by : (shots : Bool) → full.shots ≡ shots
-        → Goes (mapping (deep full) n) (map OfMap (cond shots (Shots ∷ []) [])) (mapping (filled full [] [] [])) []
+        → Goes (mapping (deep full) n) (map OfMap (cond shots (Shots ∷ []) [])) (mapping (armed full)) []
     by true h =
         let keeps : KeepsAll (deep full) Shots = record { inside = refl; count = refl; stand = refl; item = refl; travel = refl; shafts = refl } in
-        goes-line (mapping (deep full) n) (OfMap Shots) (mapping (filled full [] [] [])) (n + 1) tt refl refl (kept-fault (deep full) Shots keeps)
+        goes-line (mapping (deep full) n) (OfMap Shots) (mapping (armed full)) (n + 1) tt refl refl (kept-fault (deep full) Shots keeps)
         (ap (λ m. mapping m (n + 1)) (settings_are true h))
     by false h =
         let P : MapView → Type 0 = λ m. Goes (mapping (deep full) n) [] (mapping m) [] in
         subst P (settings_are false h) (record { at = n; each = tt; reached = refl; events = refl })
 
+goes_limit : (full : MapView) (n : ℕ) → IsMap full
+    → Goes (mapping (armed full) n) (map OfMap (limit_lines_of full)) (mapping (filled full [] [] [])) []
+goes_limit full n is = by (full.limit_lines == 0) refl
+  where
+    -- no block comes before the line
+    early : (most lines : ℕ) → most ≡ full.most_blocks → lines ≡ full.limit_lines
+        → set full.bounds full.depth full.depth_lines full.shots full.shots_lines most lines ≡ filled full [] [] []
+    early most lines same named =
+        ap (λ m. set full.bounds full.depth full.depth_lines full.shots full.shots_lines m lines) same
+        ∙ ap (λ l. set full.bounds full.depth full.depth_lines full.shots full.shots_lines full.most_blocks l) named
+        ∙ ap (λ e. record (filled full [] [] []) { early_blocks = e }) (sym is.limit.first)
+
+    by : (none : Bool) → (full.limit_lines == 0) ≡ none
+        → Goes (mapping (armed full) n) (map OfMap (cond none [] (Blocks full.most_blocks ∷ []))) (mapping (filled full [] [] [])) []
+    by true h =
+        let none = none_yet full.limit_lines h in
+        let P : MapView → Type 0 = λ m. Goes (mapping (armed full) n) [] (mapping m) [] in
+        subst P (early DEFAULT_BLOCKS 0 (sym (is.limit.default none)) (sym none)) (record { at = n; each = tt; reached = refl; events = refl })
+    by false h =
+        let line = Blocks full.most_blocks in
+        let keeps : KeepsAll (armed full) line = record { inside = refl; count = refl; stand = refl; item = refl; travel = refl; shafts = refl } in
+        goes-line (mapping (armed full) n) (OfMap line) (mapping (filled full [] [] [])) (n + 1) is.limit.range refl refl (kept-fault (armed full) line keeps)
+        (ap (λ m. mapping m (n + 1)) (early full.most_blocks 1 refl (one-line full.limit_lines is.limit.few_lines h)))
+
 goes_settings : (full : MapView) (n : ℕ) → IsMap full
     → Goes (mapping (plain_map full.bounds [] [] []) n) (setting_lines full) (mapping (filled full [] [] [])) []
 goes_settings full n is =
-    goes-then (mapping (plain_map full.bounds [] [] []) n) (map OfMap (depth_lines_of full)) (map OfMap (shots_lines_of full)) (mapping (deep full))
-    (mapping (filled full [] [] [])) [] [] (goes_depth full n is) (λ k. goes_shots full k is)
+    let depth = map OfMap (depth_lines_of full) in
+    let shots = map OfMap (shots_lines_of full) in
+    let limit = map OfMap (limit_lines_of full) in
+    goes-then (mapping (plain_map full.bounds [] [] []) n) depth (shots ++ limit) (mapping (deep full)) (mapping (filled full [] [] [])) [] []
+    (goes_depth full n is)
+    (λ k. goes-then (mapping (deep full) k) shots limit (mapping (armed full)) (mapping (filled full [] [] [])) [] [] (goes_shots full k is)
+    (λ j. goes_limit full j is))
 
 -- ---- the things
 
@@ -294,6 +335,7 @@ added-thing full done (Goal lo hi) thing = refl
 added-thing full done (Lift lo hi rise speed) thing = refl
 added-thing full done (Depth depth) thing = cc
 added-thing full done Shots thing = cc
+added-thing full done (Blocks most) thing = cc
 
 thing-added : (line : MapLine) → is_thing_line line ≡ true → not (is_arena line) ≡ true
 thing-added (Arena lo hi) thing = cc
@@ -305,6 +347,7 @@ thing-added (Goal lo hi) thing = refl
 thing-added (Lift lo hi rise speed) thing = refl
 thing-added (Depth depth) thing = cc
 thing-added Shots thing = cc
+thing-added (Blocks most) thing = cc
 
 module _ (full : MapView) (is : IsMap full) where
   thing-count : (done rest : List MapLine) (line : MapLine) → done ++ line ∷ rest ≡ full.things → is_thing_line line ≡ true → keeps_count (filled full full.blocks full.spawns done) line ≡ true
@@ -313,6 +356,7 @@ module _ (full : MapView) (is : IsMap full) where
   thing-count done rest (Spawn at) whole thing = cc
   thing-count done rest (Depth depth) whole thing = cc
   thing-count done rest Shots whole thing = cc
+  thing-count done rest (Blocks most) whole thing = cc
   thing-count done rest (Item at kind delay) whole thing =
       lt-ltb (count_by is_item_line done) MOST_ITEMS (omega (arith, count-split is_item_line done rest (Item at kind delay), ap (count_by is_item_line) whole, is.few_items))
   thing-count done rest (Teleport lo hi dest) whole thing =
@@ -337,6 +381,7 @@ module _ (full : MapView) (is : IsMap full) where
   thing-shafts done rest (Spawn at) whole thing = cc
   thing-shafts done rest (Depth depth) whole thing = cc
   thing-shafts done rest Shots whole thing = cc
+  thing-shafts done rest (Blocks most) whole thing = cc
   thing-shafts done rest (Item at kind delay) whole thing = refl
   thing-shafts done rest (Teleport lo hi dest) whole thing = refl
   thing-shafts done rest (Goal lo hi) whole thing = refl

@@ -83,6 +83,12 @@ small_is_map = record {
   few_depth_lines = omega arith;
   default_depth = λ none. absurd (omega (arith, none));
   shots_line = refl;
+  limit = record {
+    range = record { least = omega arith; most = omega arith };
+    few_lines = omega arith;
+    default = λ none. absurd (omega (arith, none));
+    first = refl;
+  };
 }
 
 -- ---- its frames
@@ -113,7 +119,7 @@ small_is = record {
   spawn = λ h. refl;
 }
 
--- its map's lines, the block first and the depth last
+-- its map's lines, the number of blocks first, then the block, and the depth last
 block_near : IsNear 1048576 small_block.lo × IsNear 1048576 small_block.hi
 block_near = (record { x = omega arith; y = omega arith; z = omega arith }, record { x = omega arith; y = omega arith; z = omega arith })
 
@@ -122,14 +128,17 @@ small_built = record {
   near = (small_lo, small_hi);
   wide = refl;
   accepted = (
-    record { limits = block_near; added = refl; rules = refl },
+    record { limits = record { least = omega arith; most = omega arith }; added = refl; rules = refl },
     (
-      record { limits = small_spawn_is.near; added = refl; rules = refl },
+      record { limits = block_near; added = refl; rules = refl },
       (
-        record { limits = tt; added = refl; rules = refl },
+        record { limits = small_spawn_is.near; added = refl; rules = refl },
         (
-          record { limits = other_spawn_is.near; added = refl; rules = refl },
-          (record { limits = record { least = omega arith; most = omega arith }; added = refl; rules = refl }, tt),
+          record { limits = tt; added = refl; rules = refl },
+          (
+            record { limits = other_spawn_is.near; added = refl; rules = refl },
+            (record { limits = record { least = omega arith; most = omega arith }; added = refl; rules = refl }, tt),
+          ),
         ),
       ),
     ),

@@ -14,7 +14,7 @@ use Rattle.edge_io.proofs.FieldTexts.{decimal_above, cut-field, field_at-field}
 use Rattle.arena_geo.specs.declared.vec3.Vec3.{Vec3}
 use Rattle.arena_geo.specs.Vectors.{IsNear}
 use Rattle.arena_map.specs.declared.map_line.MapLine.{MapLine}
-use Rattle.arena_map.specs.declared.map_line.MapLine.TheVariants.{Arena, Block, Spawn, Item, Teleport, Goal, Lift, Depth, Shots}
+use Rattle.arena_map.specs.declared.map_line.MapLine.TheVariants.{Arena, Block, Spawn, Item, Teleport, Goal, Lift, Depth, Shots, Blocks}
 use Rattle.arena_map.specs.declared.map_word.MapWord.{MapWord}
 use Rattle.arena_map.specs.declared.map_word.MapWord.TheVariants as map_words
 use Rattle.entity_recs.specs.declared.kind.Kind.{Kind}
@@ -43,8 +43,8 @@ use Rattle.demo_lines.specs.Spelling.{packet_text, line_text, IsArrival, IsLine}
 use Rattle.demo_lines.specs.Laws.{PacketsHaveRoom, IsReadAs}
 use Rattle.demo_lines.specs.Readings.{IsOfMap}
 use Rattle.demo_lines.proofs.OnePass.{short_line}
-use Rattle.demo_lines.proofs.MapWords.{IsKind, within-kind}
 use Rattle.demo_lines.proofs.Taking.{IsTaken}
+use Rattle.demo_lines.proofs.MapWords.{IsKind, within-kind}
 use Rattle.demo_lines.proofs.Prefixes.{bytes_eq-same}
 use Rattle.demo_lines.proofs.Spellings.{packet_bytes-lower}
 use Rattle.demo_lines.proofs.Ink.{AreInk, ink-append, packet_above, field-ink, decimal-ink, packet-ink, map_line-ink, are-printable, own_text}
@@ -106,6 +106,7 @@ fields-long (Lift lo hi rise speed) is =
     )
 fields-long (Depth depth) is = omega (arith, length-decimal-le 1 depth (omega arith) (omega (arith, is.most)) (omega (arith, is.most)))
 fields-long Shots is = omega arith
+fields-long (Blocks most) is = omega (arith, length-decimal-le 4 most (omega arith) (omega (arith, is.most)) (omega (arith, is.most)))
 
 word-long : (word : MapWord) → length (word_text word) ≤ 8
 word-long map_words.Arena = omega arith
@@ -117,6 +118,7 @@ word-long map_words.Goal = omega arith
 word-long map_words.Lift = omega arith
 word-long map_words.Depth = omega arith
 word-long map_words.Shots = omega arith
+word-long map_words.Blocks = omega arith
 
 map_line-long : (line : MapLine) → IsWithinLimits line → length (map_line_text line) ≤ 512
 map_line-long line is = omega (arith, length-append (word_text (word_of line)) (fields_text line), word-long (word_of line), fields-long line is)

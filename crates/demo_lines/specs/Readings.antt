@@ -1,9 +1,9 @@
 -- What holds of what is known of a recording.
 use Rattle.std.specs.Prelude.{◌≡◌, ◌+◌, ◌≤◌, true, None, IfSome, IsSome, ⊤}
 use Rattle.packet_read.specs.declared.arrival.TheConstants.{MOST_ARRIVALS}
-use Rattle.arena_map.specs.declared.limits.TheConstants.{MOST_FRAMES}
+use Rattle.arena_map.specs.declared.limits.TheConstants.{MOST_BLOCKS, MOST_FRAMES}
 use Rattle.arena_map.specs.declared.map_line.MapLine.{MapLine}
-use Rattle.arena_map.specs.Maps.{is_ready}
+use Rattle.arena_map.specs.Maps.{MapView, is_ready}
 use Rattle.arena_map.specs.MapLines.{IsWithinLimits, is_arena, is_added}
 use Rattle.demo_lines.specs.declared.line.Line.{Line}
 use Rattle.demo_lines.specs.declared.line.Line.TheVariants.{OfMap, Frame, From, End}
@@ -29,10 +29,15 @@ IsAllowedAt stage Frame = is_allowed stage words.Frame ≡ true
 IsAllowedAt stage (From a) = is_allowed stage words.From ≡ true
 IsAllowedAt stage End = is_allowed stage words.End ≡ true
 
+-- the map may have no more blocks than a line can allow
+abbrev pub HasFewBlocks : MapView → Type 0
+HasFewBlocks map = map.most_blocks ≤ MOST_BLOCKS
+
 -- what holds at each stage; after the first frame or the end the map may have been given out
 abbrev pub HasMap : Stage → Reading → Type 0
 HasMap Start r = (r.map ≡ None) × (r.frames ≡ 0) × (r.arrivals ≡ 0)
-HasMap Map r = IsSome r.map × (r.frames ≡ 0) × (r.arrivals ≡ 0)
+HasMap Map r =
+    IsSome r.map × (r.frames ≡ 0) × (r.arrivals ≡ 0) × IfSome r.map HasFewBlocks
 HasMap Playing r = IfSome r.map (λ map. is_ready map ≡ true)
 HasMap Ended r = ⊤
 HasMap (Refused why) r = ⊤

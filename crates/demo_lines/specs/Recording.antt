@@ -83,13 +83,14 @@ things_left things =
     (MOST_ITEMS - count_by is_item_line things) + (MOST_BOXES - count_by is_teleport_line things) + (MOST_BOXES - count_by is_goal_line things)
     + (MOST_BOXES - count_by is_lift_line things)
 
--- at most so many more lines of settings can be added to a map: one that names the depth, and one that lets players shoot
+-- at most so many more lines of settings can be added to a map: one that names the depth, one that lets players shoot, and
+-- one that says how many blocks there may be
 abbrev pub settings_left : MapView → ℕ
-settings_left map = (1 - map.depth_lines) + (1 - map.shots_lines)
+settings_left map = (1 - map.depth_lines) + (1 - map.shots_lines) + (1 - map.limit_lines)
 
 -- at most so many more lines can be added to a map
 abbrev pub map_lines_left : Option MapView → ℕ
-map_lines_left None = MOST_BLOCKS + MOST_SPAWNS + MOST_THINGS + 2
+map_lines_left None = MOST_BLOCKS + MOST_SPAWNS + MOST_THINGS + 3
 map_lines_left (Some map) =
     (MOST_BLOCKS - length map.blocks) + (MOST_SPAWNS - length map.spawns) + things_left map.things + settings_left map
 
@@ -102,7 +103,7 @@ left_at Ended r = 0
 left_at (Refused why) r = 0
 
 -- at most so many more lines can follow
--- Exact, so it also bounds how many lines a recording has, to the line.
+-- Exact at the start, so it also bounds how many lines a recording has, to the line.
 abbrev pub lines_left : Reading → ℕ
 lines_left r = left_at r.stage r
 

@@ -9,7 +9,7 @@ use Rattle.arena_geo.specs.declared.vec3.Vec3.{Vec3}
 use Rattle.arena_geo.specs.Bounds.{Bounds, bounds}
 use Rattle.arena_map.specs.declared.limits.TheConstants.{MOST_FRAMES}
 use Rattle.arena_map.specs.declared.map_line.MapLine.{MapLine}
-use Rattle.arena_map.specs.declared.map_line.MapLine.TheVariants.{Arena, Block, Spawn, Depth, Shots}
+use Rattle.arena_map.specs.declared.map_line.MapLine.TheVariants.{Arena, Block, Spawn, Depth, Shots, Blocks}
 use Rattle.arena_map.specs.Maps.{MapView, IsMap, is_ready, map_of}
 use Rattle.arena_map.specs.MapLines.{IsWithinLimits}
 use Rattle.arena_map.specs.Spelling.{map_line_text}
@@ -66,9 +66,13 @@ depth_lines_of m = if m.depth_lines == 0 then [] else Depth m.depth ∷ []
 abbrev pub shots_lines_of : MapView → List MapLine
 shots_lines_of m = if m.shots then Shots ∷ [] else []
 
+-- the line that says how many blocks there may be, if one does
+abbrev pub limit_lines_of : MapView → List MapLine
+limit_lines_of m = if m.limit_lines == 0 then [] else Blocks m.most_blocks ∷ []
+
 -- the lines of a map's settings
 abbrev pub setting_lines : MapView → List Line
-setting_lines m = map OfMap (depth_lines_of m) ++ map OfMap (shots_lines_of m)
+setting_lines m = map OfMap (depth_lines_of m) ++ (map OfMap (shots_lines_of m) ++ map OfMap (limit_lines_of m))
 
 -- the lines of a map: the arena, the settings, the spawns, the blocks and the things, each in their order
 abbrev pub map_lines : MapView → List Line
@@ -108,7 +112,7 @@ pub record IsRecording (m : MapView) (frames : List (List Arrival)) : Type 0 whe
   pub each : AllByRecursion IsFrame frames
   pub spawn : 0 < length frames → is_ready m ≡ true
 
--- a small map: the least arena, a block, two spawns, a tree of depth 5, and shots
+-- a small map: the least arena, a block of at most 1,025, two spawns, a tree of depth 5, and shots
 abbrev pub small_map : MapView
 small_map = map_of
     (bounds
@@ -118,12 +122,13 @@ small_map = map_of
     ∷ [])
     (record { x = pos 0; y = pos 4096; z = pos 6144 } ∷ record { x = pos 12288; y = pos 4096; z = pos 6144 } ∷ [])
     []
-    (record { depth = 5; names_depth = true; shots = true })
+    (record { depth = 5; names_depth = true; shots = true; most_blocks = 1025; names_blocks = true })
 
--- the lines of this map after its arena, with the block first and the depth last
+-- the lines of this map after its arena, with the number of blocks first, then the block, and the depth last
 abbrev pub small_lines : List MapLine
 small_lines =
-    Block (record { x = pos 1; y = pos 20; z = pos 300 }) (record { x = pos 4000; y = pos 30000; z = pos 32768 })
+    Blocks 1025
+    ∷ Block (record { x = pos 1; y = pos 20; z = pos 300 }) (record { x = pos 4000; y = pos 30000; z = pos 32768 })
     ∷ Spawn (record { x = pos 0; y = pos 4096; z = pos 6144 })
     ∷ Shots
     ∷ Spawn (record { x = pos 12288; y = pos 4096; z = pos 6144 })
@@ -137,6 +142,6 @@ small_frames = (record { port = 7; bytes = 1 ∷ 175 ∷ [] } ∷ record { port 
 -- its text
 abbrev pub small_text : List ℕ
 small_text =
-    codes "arena -16384 0 0 16384 32768 32768\ndepth 5\nshots\n"
+    codes "arena -16384 0 0 16384 32768 32768\ndepth 5\nshots\nblocks 1025\n"
     ++ codes "spawn 0 4096 6144\nspawn 12288 4096 6144\nblock 1 20 300 4000 30000 32768\n"
     ++ codes "frame\nfrom 7 01af\nfrom 65535 -\nframe\nend\n"

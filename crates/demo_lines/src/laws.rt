@@ -65,7 +65,7 @@ pub fn small_recording_can_be_written()
     ensures { SmallRecording }
 {}
 
-/// A recording has at most 51,301,540 lines up to its end or its refused line, and some have so many.
+/// A recording has at most 51,304,613 lines up to its end or its refused line, and some have so many.
 pub fn lines_are_bounded()
     ensures { LinesAreBounded }
 {}

@@ -134,6 +134,12 @@ generated_is_map = record {
   few_depth_lines = omega arith;
   default_depth = λ none. refl;
   shots_line = refl;
+  limit = record {
+    range = record { least = omega arith; most = omega arith };
+    few_lines = omega arith;
+    default = λ none. refl;
+    first = refl;
+  };
 }
 
 pub map_is_known : MapIsKnown

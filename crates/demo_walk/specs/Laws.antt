@@ -10,8 +10,8 @@ use Rattle.demo_make.specs.GeneratedFrames.{IsInRange, join_from, move_of, arriv
 use Rattle.demo_walk.specs.WalkedFrames.{joined_by, joined_before, joins_in, words_before, move_in, moves_in, walked_in}
 use Rattle.demo_walk.specs.WalkedFrames.{frames_on, walk_text}
 
--- each recording has no fault, and is read as the map that it was made of, but for a line that names the depth which a
--- map has anyway, and these frames
+-- each recording has no fault, and is read as the map that it was made of, but for a line that names the depth or the
+-- number of blocks which a map has anyway, and these frames
 abbrev pub WalksReadBack : Type 0
 WalksReadBack =
     (m : MapView) (seed players frames : ℕ) → IsMap m → IsInRange players frames

@@ -39,6 +39,7 @@ map_line_keeps None (of_map.Goal lo hi) near none kept = tt
 map_line_keeps None (of_map.Lift lo hi rise speed) near none kept = tt
 map_line_keeps None (of_map.Depth depth) near none kept = tt
 map_line_keeps None of_map.Shots near none kept = tt
+map_line_keeps None (of_map.Blocks most) near none kept = tt
 map_line_keeps (Some map) line near none kept = with_line-is_map map line kept near none
 
 taken_keeps : (r : Reading) (line : Line) → IsTakenBy r line → HasKeptRules r.map → HasKeptRules (after_line r (Some line)).map
@@ -85,6 +86,7 @@ begins None (of_map.Goal lo hi) is = cc
 begins None (of_map.Lift lo hi rise speed) is = cc
 begins None (of_map.Depth depth) is = cc
 begins None of_map.Shots is = cc
+begins None (of_map.Blocks most) is = cc
 begins (Some map) line is = refl
 
 goes_on : (m : Option MapView) (line : MapLine) → IsSome m → IsSome (with_map_line m line)

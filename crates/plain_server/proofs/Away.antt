@@ -61,6 +61,7 @@ least_delay map id delay is_map is = by (thing_of map id) refl is
     of_line (lines.Spawn at) here e = absurd (none-some delay e)
     of_line (lines.Depth depth) here e = absurd (none-some delay e)
     of_line lines.Shots here e = absurd (none-some delay e)
+    of_line (lines.Blocks most) here e = absurd (none-some delay e)
     of_line (lines.Teleport lo hi dest) here e = absurd (none-some delay e)
     of_line (lines.Goal lo hi) here e = absurd (none-some delay e)
     of_line (lines.Lift lo hi rise speed) here e = absurd (none-some delay e)

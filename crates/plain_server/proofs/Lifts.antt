@@ -12,7 +12,7 @@ use Rattle.entity_recs.specs.declared.rec.Rec.{Rec}
 use Rattle.entity_recs.specs.Bodies.{box_at_origin, body_of}
 use Rattle.entity_recs.specs.Kinds.{is_solid, is_item}
 use Rattle.arena_map.specs.declared.map_line.MapLine.{MapLine}
-use Rattle.arena_map.specs.declared.map_line.MapLine.TheVariants.{Arena, Depth, Shots, Block, Spawn, Item, Teleport, Goal, Lift}
+use Rattle.arena_map.specs.declared.map_line.MapLine.TheVariants.{Arena, Depth, Shots, Blocks, Block, Spawn, Item, Teleport, Goal, Lift}
 use Rattle.arena_map.specs.Positions.{shaft, shaft_of}
 use Rattle.arena_map.specs.Things.{record_of}
 use Rattle.arena_map.specs.Maps.{MapView, IsMap, IsThingInside}
@@ -55,6 +55,7 @@ solid_in_shaft arena id (Block lo hi) inside solid = let no = inside.thing in cc
 solid_in_shaft arena id (Spawn at) inside solid = let no = inside.thing in cc
 solid_in_shaft arena id (Depth depth) inside solid = let no = inside.thing in cc
 solid_in_shaft arena id Shots inside solid = let no = inside.thing in cc
+solid_in_shaft arena id (Blocks most) inside solid = let no = inside.thing in cc
 
 found_in_shaft : (map : MapView) (id : ℕ) (r : Rec) (found : IsFound map.bounds 64 map.things id r) → is_solid r.kind ≡ true → IsInShaft found.line (body_of r)
 found_in_shaft map id r found solid =

@@ -7,16 +7,16 @@ ghost use Rattle.areanode.specs.Trees.{IsTreeDepth};
 ghost use Rattle.entity_recs.specs.Kinds.{is_item};
 ghost use Rattle.arena_map.specs.declared.map_fault.MapFault.{MapFault};
 ghost use Rattle.arena_map.specs.declared.map_fault.MapRefusal.TheVariants.{Rule};
-ghost use Rattle.arena_map.specs.declared.map_line.MapLine.TheVariants.{Block, Spawn, Depth, Shots};
+ghost use Rattle.arena_map.specs.declared.map_line.MapLine.TheVariants.{Block, Spawn, Depth, Shots, Blocks};
 ghost use Rattle.arena_map.specs.Positions as places;
 ghost use Rattle.arena_map.specs.Maps as maps;
 ghost use Rattle.arena_map.specs.MapLines as lines;
-ghost use Rattle.arena_map.specs.MapLines.{IsWithinLimits, is_added, is_thing_line};
+ghost use Rattle.arena_map.specs.MapLines.{IsWithinLimits, IsBlockLimit, is_added, is_thing_line};
 ghost use Rattle.arena_map.specs.MapLines.{is_teleporter};
 ghost use Rattle.arena_map.specs.Rules as rules;
 ghost use Rattle.arena_map.specs.Rules.{broken_rule, with_line, with_thing};
 
-use crate::limits::{MOST_BLOCKS, MOST_BOXES, MOST_ITEMS, MOST_SPAWNS};
+use crate::limits::{MOST_BOXES, MOST_ITEMS, MOST_SPAWNS};
 use crate::map::{ArenaMap, FIRST_THING};
 use crate::map_fault::MapFault;
 use crate::map_line::MapLine;
@@ -55,7 +55,7 @@ impl ArenaMap {
     {
         match l {
             MapLine::Arena { .. } => true,
-            MapLine::Block { .. } => self.blocks().len() < MOST_BLOCKS,
+            MapLine::Block { .. } => self.blocks().len() < usize::from(self.settings.most_blocks),
             MapLine::Spawn { .. } => self.spawns.len() < MOST_SPAWNS,
             MapLine::Item { .. } => self.items() < MOST_ITEMS,
             MapLine::Teleport { .. } => self.teleporters() < MOST_BOXES,
@@ -63,6 +63,7 @@ impl ArenaMap {
             MapLine::Lift { .. } => self.shafts.len() < MOST_BOXES,
             MapLine::Depth(_) => !self.settings.names_depth,
             MapLine::Shots => !self.settings.shots,
+            MapLine::Blocks(_) => !self.settings.names_blocks && self.blocks().is_empty(),
         }
     }
 
@@ -145,6 +146,10 @@ impl ArenaMap {
                 self.put_shots();
                 Ok(())
             }
+            MapLine::Blocks(most) => {
+                self.put_limit(most);
+                Ok(())
+            }
         }
     }
 
@@ -205,5 +210,15 @@ impl ArenaMap {
         ensures { self.new ≡ rules.with_shots self.old }
     {
         self.settings.shots = true;
+    }
+
+    /// Sets how many blocks there may be.
+    fn put_limit(&mut self, most: u16)
+        requires limits { IsBlockLimit most }
+        requires kept { broken_rule self.old (Blocks most) ≡ None }
+        ensures { self.new ≡ rules.with_limit self.old most }
+    {
+        self.settings.most_blocks = most;
+        self.settings.names_blocks = true;
     }
 }

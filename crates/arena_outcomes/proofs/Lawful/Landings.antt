@@ -12,7 +12,7 @@ use Rattle.arena_geo.specs.Boxes.{touches}
 use Rattle.entity_recs.specs.declared.rec.Rec.{Rec}
 use Rattle.entity_recs.specs.Bodies.{abs_of}
 use Rattle.arena_map.specs.declared.map_line.MapLine.{MapLine}
-use Rattle.arena_map.specs.declared.map_line.MapLine.TheVariants.{Arena, Depth, Shots, Block, Spawn, Item, Teleport, Goal, Lift}
+use Rattle.arena_map.specs.declared.map_line.MapLine.TheVariants.{Arena, Depth, Shots, Blocks, Block, Spawn, Item, Teleport, Goal, Lift}
 use Rattle.arena_map.specs.MapLines.{is_thing_line, is_teleport_line}
 use Rattle.arena_map.specs.Things.{record_of, records_from, dest_in}
 use Rattle.arena_map.specs.Maps.{MapView, IsMap, IsThingInside, entities_of, dest_of}
@@ -70,6 +70,7 @@ module _ {Y : Type 0} (map : MapView) (h : Rec → Option Y) (of_leaps : (thing 
   few_at (Arena lo hi) thing is = none-without thing is
   few_at (Depth depth) thing is = none-without thing is
   few_at Shots thing is = none-without thing is
+  few_at (Blocks most) thing is = none-without thing is
   few_at (Block lo hi) thing is = none-without thing is
   few_at (Spawn at) thing is = none-without thing is
   few_at (Item at kind delay) thing is = none-without thing is

@@ -262,6 +262,47 @@ fn each_kind_has_its_limit(rt: HostRuntime) -> Result<(), Fail> {
     Ok(())
 }
 
+/// A small block.
+const SMALL: &[u8] = b"block 0 0 0 1 1 1";
+
+/// Lines on how many blocks there may be, of which the second is one too many, whatever it says.
+const MORE_BLOCKS: &[(&[u8], u8)] = &[
+    (b"blocks 1025", 0),
+    (b"blocks 1025", 3),
+    (b"blocks 4096", 3),
+];
+
+#[test]
+fn a_line_allows_more_blocks(rt: HostRuntime) -> Result<(), Fail> {
+    let mut map = begun(rt.alloc(), ARENA)?;
+    assert_eq!(rt; map.most_blocks(), 1_024);
+    expect(&rt, &mut map, MORE_BLOCKS)?;
+    assert_eq!(rt; map.most_blocks(), 1_025);
+    expect_limit(&rt, &mut map, SMALL, SMALL, 1_025);
+    assert_eq!(rt; map.solids().len(), 1_031);
+    Ok(())
+}
+
+#[test]
+fn a_map_has_at_most_4096_blocks(rt: HostRuntime) -> Result<(), Fail> {
+    let mut map = begun(rt.alloc(), ARENA)?;
+    assert_eq!(rt; rule_of(&mut map, b"blocks 4096"), Ok(0));
+    expect_limit(&rt, &mut map, SMALL, SMALL, 4_096);
+    Ok(())
+}
+
+/// A line on how many blocks there may be comes after a block, and is refused whatever it says.
+const LATE: &[(&[u8], u8)] = &[(SMALL, 0), (b"blocks 1024", 3), (b"blocks 4096", 3)];
+
+#[test]
+fn no_line_allows_more_blocks_after_a_block(rt: HostRuntime) -> Result<(), Fail> {
+    let mut map = begun(rt.alloc(), ARENA)?;
+    expect(&rt, &mut map, LATE)?;
+    assert_eq!(rt; map.most_blocks(), 1_024);
+    expect_limit(&rt, &mut map, SMALL, SMALL, 1_023);
+    Ok(())
+}
+
 /// A small lift, beside the others.
 fn lift_beside(place: u8) -> MapLine
     ensures added { is_added result ≡ true }
@@ -412,6 +453,8 @@ const PRINTED: &[&[u8]] = &[
     b"depth 3",
     b"depth 5",
     b"shots",
+    b"blocks 1024",
+    b"blocks 4096",
 ];
 
 #[test]
@@ -449,6 +492,8 @@ fn settings_are_read_from_their_lines(rt: HostRuntime) {
     assert_eq!(rt; read(b"depth 3"), Ok(MapLine::Depth(3)));
     assert_eq!(rt; read(b"depth 5"), Ok(MapLine::Depth(5)));
     assert_eq!(rt; read(b"shots"), Ok(MapLine::Shots));
+    assert_eq!(rt; read(b"blocks 1024"), Ok(MapLine::Blocks(1_024)));
+    assert_eq!(rt; read(b"blocks 4096"), Ok(MapLine::Blocks(4_096)));
 }
 
 #[test]
@@ -488,6 +533,15 @@ const LINE_FAULTS: &[(&[u8], u8)] = &[
     (b"depth three", 4),
     (b"shots 1", 4),
     (b"shots ", 4),
+    (b"Blocks 1024", 3),
+    (b"blocks", 4),
+    (b"blocks 1024 1", 4),
+    (b"blocks 01024", 4),
+    (b"blocks all", 4),
+    (b"blocks 1023", 6),
+    (b"blocks 4097", 6),
+    (b"blocks -1024", 6),
+    (b"blocks 66560", 6),
     (b"depth 6", 6),
     (b"depth 2", 6),
     (b"depth -3", 6),

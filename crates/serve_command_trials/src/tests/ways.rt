@@ -47,6 +47,16 @@ const DEPTH_4: &str =
 const DEPTH_4_TO_1: &str =
     "arena -131072 -131072 0 131072 131072 65536\nspawn 0 0 6144\nspawn 4096 0 6144\nframe\nfrom 1 0101\nframe\nfrom 1 010201000000324001000000\nend\nway 0 1\nlength 4096\nleast 0 4096\n";
 
+/// A map with lines on how many blocks there may be, and what `bots 1` writes of it: the line comes before the block.
+const BLOCKS: &str =
+    "arena -131072 -131072 0 131072 131072 65536\nspawn 0 0 6144\nblocks 1025\nblock 90000 90000 0 91000 91000 7000\nspawn 4096 0 6144\nshots\nend\n";
+const BLOCKS_TO_1: &str =
+    "arena -131072 -131072 0 131072 131072 65536\nshots\nblocks 1025\nblock 90000 90000 0 91000 91000 7000\nspawn 0 0 6144\nspawn 4096 0 6144\nframe\nfrom 1 0101\nframe\nfrom 1 010201000000324001000000\nend\nway 0 1\nlength 4096\nleast 0 4096\n";
+
+/// The same with as many blocks as a map may have without a line; what `bots` writes of it has none.
+const BLOCKS_1024: &str =
+    "arena -131072 -131072 0 131072 131072 65536\nblocks 1024\nspawn 0 0 6144\nspawn 4096 0 6144\nend\n";
+
 /// A spawn that is too far from the others.
 pub const FAR: &str =
     "arena -131072 -131072 0 131072 131072 65536\nspawn 0 0 6144\nspawn 40000 0 6144\nspawn 120000 0 6144\nend\n";
@@ -91,6 +101,9 @@ fn ways_are_written_with_their_certificates(rt: HostRuntime) -> Result<(), Fail>
 fn settings_are_written_before_the_blocks(rt: HostRuntime) -> Result<(), Fail> {
     expect_ways(&rt, SETTINGS, "1", (0, 0), SETTINGS_TO_1)?;
     expect_ways(&rt, DEPTH_4, "1", (0, 0), DEPTH_4_TO_1)?;
+    expect_ways(&rt, BLOCKS, "1", (0, 0), BLOCKS_TO_1)?;
+    expect_ways(&rt, BLOCKS_TO_1, "1", (0, 0), BLOCKS_TO_1)?;
+    expect_ways(&rt, BLOCKS_1024, "1", (0, 0), DEPTH_4_TO_1)?;
     Ok(())
 }
 

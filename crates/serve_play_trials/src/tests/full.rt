@@ -45,7 +45,8 @@ fn joined_lines(alloc: Global) -> Result<String, AllocError> {
 fn full_of_blocks_and_packets(alloc: Global) -> Result<String, AllocError> {
     let mut text = String::new(alloc);
     text.push_str(WIDE)?;
-    for _ in 0..1_024 {
+    text.push_str("blocks 4096\n")?;
+    for _ in 0..4_096 {
         text.push_str(BLOCK)?;
     }
     text.push_str("frame\nfrom 7 0101\n")?;

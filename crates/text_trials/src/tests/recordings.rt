@@ -217,8 +217,11 @@ fn the_first_line_has_its_first_fault(rt: HostRuntime) -> Result<(), Fail> {
 
 #[test]
 fn a_line_after_the_arena_has_its_first_fault(rt: HostRuntime) -> Result<(), Fail> {
-    let rows: [(&[u8], u8, u8); 13] = [
+    let rows: [(&[u8], u8, u8); 16] = [
         (b"frame\n", 7, 7),
+        (b"blocks 1023\n", 6, 0),
+        (b"blocks 4097\n", 6, 0),
+        (b"blocks 01024\n", 4, 0),
         (b"depth 6\n", 6, 0),
         (b"depth\n", 4, 0),
         (b"depth 3 3\n", 4, 0),
@@ -242,7 +245,10 @@ fn a_line_after_the_arena_has_its_first_fault(rt: HostRuntime) -> Result<(), Fai
 
 #[test]
 fn a_second_line_of_a_setting_breaks_rule_3(rt: HostRuntime) -> Result<(), Fail> {
-    let rows: [(&[&[u8]], &[u8]); 4] = [
+    let rows: [(&[&[u8]], &[u8]); 7] = [
+        (&[ARENA, b"blocks 2000\n"], b"blocks 2000\n"),
+        (&[ARENA, b"blocks 1024\n"], b"blocks 4096\n"),
+        (&[ARENA, BLOCK], b"blocks 4096\n"),
         (&[ARENA, b"depth 3\n"], b"depth 3\n"),
         (&[ARENA, b"depth 3\n"], b"depth 4\n"),
         (&[ARENA, b"depth 4\n"], b"depth 4\n"),
@@ -256,7 +262,8 @@ fn a_second_line_of_a_setting_breaks_rule_3(rt: HostRuntime) -> Result<(), Fail>
 
 #[test]
 fn no_line_of_a_setting_comes_after_a_frame(rt: HostRuntime) -> Result<(), Fail> {
-    let rows: [(&[u8], u8); 5] = [
+    let rows: [(&[u8], u8); 6] = [
+        (b"blocks 2000\n", 5),
         (b"depth 3\n", 5),
         (b"depth 6\n", 5),
         (b"depth\n", 4),
@@ -365,6 +372,16 @@ fn an_arena_has_at_most_1024_blocks(rt: HostRuntime) -> Result<(), Fail> {
     let over: &[u8] = b"block 0 0 0 1 1 1\nend\n";
     expect_recording(&rt, rt.alloc(), front, b"frame\nend\n", &[Frame], End)?;
     expect_recording(&rt, rt.alloc(), front, over, &[], refused(1027, 7, 3))
+}
+
+#[test]
+fn a_line_allows_an_arena_more_blocks(rt: HostRuntime) -> Result<(), Fail> {
+    let mut front = repeated(rt.alloc(), &[ARENA, b"blocks 1025\n"], BLOCK, 1025)?;
+    front.push(SPAWN)?;
+    let front = front.as_slice();
+    let over: &[u8] = b"block 0 0 0 1 1 1\nend\n";
+    expect_recording(&rt, rt.alloc(), front, b"frame\nend\n", &[Frame], End)?;
+    expect_recording(&rt, rt.alloc(), front, over, &[], refused(1029, 7, 3))
 }
 
 #[test]
