@@ -22,12 +22,12 @@ use Rattle.region_locks.specs.declared.went.Went.{Went}
 use Rattle.region_locks.specs.declared.went.Went.TheVariants.{Resolved}
 use Rattle.region_locks.specs.declared.turn.Turn.{Turn}
 use Rattle.region_locks.specs.Turns.{has_command_in_hand}
-use Rattle.region_locks.specs.Closing.{HasNoCommand}
+use Rattle.shared_moves.specs.Closing.{HasNoCommand}
 use Rattle.region_locks.specs.Pursuits.{command_pursued, item_of, entry_committed, is_resolved, HasGoneOn, WasRefused, HasGivenUp, IsRefusedBy}
-use Rattle.region_locks.specs.declared.again.Again.{Again}
-use Rattle.region_locks.specs.declared.gate_point.GatePoint.TheVariants as points
-use Rattle.region_locks.specs.Moves.{HasRun, NoTakeWasRefused, IsLeafHeld, IsNodeBusy, IsCause, WasNotRun, IsOpen, IsDone, IsRunning}
-use Rattle.region_locks.specs.Moments.{IsAtPoint, RunsCommand}
+use Rattle.shared_moves.specs.declared.again.Again.{Again}
+use Rattle.shared_moves.specs.declared.gate_point.GatePoint.TheVariants as points
+use Rattle.shared_moves.specs.Moves.{HasRun, NoTakeWasRefused, IsLeafHeld, IsNodeBusy, IsCause, WasNotRun, IsOpen, IsDone, IsRunning}
+use Rattle.shared_moves.specs.Moments.{IsAtPoint, RunsCommand}
 
 -- a list with a command isn't empty
 has_one : {R : Type 0} (xs : List Command) (c : Command) → xs ≡ c ∷ [] → xs ≡ [] → R

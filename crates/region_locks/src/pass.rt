@@ -2,8 +2,8 @@ ghost use Rattle.std.specs.Prelude.{◌≡◌, ◌≤◌, ◌+◌, false, None};
 ghost use Rattle.core_seats.specs.Seats.{view_of, things_room};
 ghost use Rattle.ruled_words.specs.Passes.{sight_of};
 ghost use Rattle.ruled_words.specs.Sights.{no_tally};
-ghost use Rattle.region_locks.specs.NewPasses.{new_pass};
-ghost use Rattle.region_locks.specs.Closing.{log_from};
+ghost use Rattle.ruled_words.specs.NewPasses.{new_pass};
+ghost use Rattle.shared_moves.specs.Closing.{log_from};
 
 use core_seats::Seat;
 use entity_recs::Effect;

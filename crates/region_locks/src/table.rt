@@ -10,7 +10,7 @@ ghost use Rattle.ruled_words.specs.Starts.{rules_of};
 ghost use Rattle.world_tree.specs.Live.{live_in};
 ghost use Rattle.world_tree.specs.Worlds.{IsLinked};
 ghost use Rattle.ruled_words.specs.Numbers.{HasSmallNumbers};
-ghost use Rattle.region_locks.specs.NewPasses.{other_pass, new_passes, view_with_made};
+ghost use Rattle.ruled_words.specs.NewPasses.{other_pass, new_passes, view_with_made};
 
 use crate::pass::Pass;
 use core_seats::{Rules, Seat};

@@ -41,9 +41,23 @@ impl<'a, A: Action> SharedWords<'a, A> {
         first.end(&self.table.shared, other);
     }
 
+    // The words are copied into an array and the table is freed before any record is read, so the functions on
+    // records see plain words.
+    /// Closes the table, of which all other seats were ended into the first one's, and makes the records of the world that
+    /// the table began with those of its words. It takes no memory.
+    pub fn close_into(self, first: Hand, world: &mut World)
+        requires table { first.table ≡ self.table }
+        requires rests { IsAtRest first.view }
+        requires first { first.number ≡ 0 }
+        requires ended { AreEndedBelow (length self.rooms) first.view }
+        requires world { world.old ≡ self.world }
+    {
+        relink_all(&self.close(first), world);
+    }
+
     /// Closes the table, of which all other seats were ended into the first one's, and gives its words. It takes no
     /// memory.
-    pub fn close(self, first: Hand) -> [u64; TABLE_WORDS]
+    fn close(self, first: Hand) -> [u64; TABLE_WORDS]
         requires table { first.table ≡ self.table }
         requires rests { IsAtRest first.view }
         requires first { first.number ≡ 0 }

@@ -115,9 +115,32 @@ fn lay_table<A: Action>(
 }
 
 impl<'a, A: Action> SharedWords<'a, A> {
+    /// The words of `world`, which is only read, under their rule, and a hand for each room, numbered from 0: the seats of
+    /// the others are made from that of the first.
+    pub fn open(
+        alloc: Global,
+        action: &'a A,
+        world: &World,
+        room: &[u32],
+    ) -> Result<(SharedWords<'a, A>, Vec<Hand>), AllocError>
+        requires rooms { (0 < length room.now) × (length room.now ≤ MOST_SEATS) }
+        requires taken { All (λ r. HasSmallNumbers r → (A.meaning action.now).takes r ≡ true)
+            (live_in world.now.records) }
+        ensures table { IfOk result (λ r. (r.0.action ≡ action.now) × (r.0.world ≡ world.now)
+            × (r.0.rooms ≡ room.now)) }
+        ensures hands { IfOk result (λ r. r.1.items ≡ new_passes r.0.table (setting_of (fixed_in A.meaning r.0)) room.now) }
+        ensures own { IfOk result (λ r. All (IsOwnHand A.meaning r.0) r.1.items) }
+        ensures linked { OnOk result (IsLinked world.now) }
+    {
+        let (words, mut first) = SharedWords::new(alloc, action, world, room)?;
+        let mut hands = words.make_others(alloc, &mut first, room)?;
+        hands.insert(0, first)?;
+        Ok((words, hands))
+    }
+
     /// The words of `world`, which is only read, under their rule, and the hand of seat 0: there is a room for each seat,
     /// and that of seat 0 is the first.
-    pub fn new(
+    fn new(
         alloc: Global,
         action: &'a A,
         world: &World,
@@ -145,7 +168,7 @@ impl<'a, A: Action> SharedWords<'a, A> {
     }
 
     /// The hand of the seat that is made next from seat 0, which rests, with this room.
-    pub fn make(&self, first: &mut Hand, number: u8, room: u32) -> Hand
+    fn make(&self, first: &mut Hand, number: u8, room: u32) -> Hand
         requires table { first.old.table ≡ self.now.table }
         requires rests { IsAtRest first.old.view }
         requires first { first.old.number ≡ 0 }
@@ -157,5 +180,30 @@ impl<'a, A: Action> SharedWords<'a, A> {
         ensures made { sight_of result ≡ sight_made room (sight_of first.old) }
     {
         first.make(&self.table.shared, number, room)
+    }
+
+    /// Makes a seat for each room but the first, from seat 0.
+    fn make_others(&self, alloc: Global, first: &mut Hand, room: &[u32]) -> Result<Vec<Hand>, AllocError>
+        requires table { first.old.table ≡ self.now.table }
+        requires rooms { (self.now.rooms ≡ room.now) × (0 < length room.now) × (length room.now ≤ MOST_SEATS) }
+        requires first { sight_of first.old ≡ first_sight (slice_index room.now 0) }
+        requires setting { first.old.setting ≡ setting_of (fixed_in A.meaning self.now) }
+        ensures hands { IfOk result (λ v. v.items
+            ≡ map (other_pass self.now.table (setting_of (fixed_in A.meaning self.now)) room.now)
+            (range_with_len 1 (length room.now - 1))) }
+        ensures first { OnOk result
+            (sight_of first.new ≡ record {
+              number = 0;
+              view = view_with_made (slice_index room.now 0) (length room.now);
+              tally = no_tally;
+            }) }
+        ensures table { first.new.table ≡ first.old.table }
+        ensures setting { first.new.setting ≡ first.old.setting }
+    {
+        let mut hands = Vec::with_capacity(alloc, room.len())?;
+        for i in 1..room.len() {
+            hands.push(self.make(first, i as u8, room[i]))?;
+        }
+        Ok(hands)
     }
 }

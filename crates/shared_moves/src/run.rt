@@ -2,12 +2,16 @@ ghost use Rattle.std.specs.Prelude.{◌≡◌, ◌%◌, true, length, IfOk, IfEr
 ghost use Rattle.entity_recs.specs.Commands.{command_of};
 ghost use Rattle.core_steps.specs.Nodes.{has};
 ghost use Rattle.ruled_words.specs.Passes.{fixed_in, IsOwn};
-ghost use Rattle.region_locks.specs.Quitting.{MayBegin};
-ghost use Rattle.region_locks.specs.Moves.{HasRun, NoTakeWasRefused, WasNotRun};
+ghost use Rattle.shared_moves.specs.InHand.{MayBegin};
+ghost use Rattle.shared_moves.specs.Moves.{HasRun, NoTakeWasRefused, WasNotRun};
 
+use crate::again::Again;
+use crate::gate::Gate;
+use crate::pass::Pass;
 use crate::shared::Shared;
+use crate::walk::walk;
 use entity_recs::{Action, Cmd, Entry};
-use region_locks::{Again, Gate, Pass};
+use move_journal::same_entry;
 use std::sync::Wait;
 
 impl<'a, A: Action> Shared<'a, A> {
@@ -21,7 +25,17 @@ impl<'a, A: Action> Shared<'a, A> {
         ensures { HasRun (fixed_in A.meaning self.now) (length self.now.rooms) self.now.table
             pass.old pass.new (command_of cmd) result }
     {
-        self.table.run(rt, pass, cmd, gate)
+        let entry = walk(
+            &self.words,
+            rt,
+            &mut pass.hand,
+            &mut pass.refusals,
+            &mut pass.near,
+            &cmd,
+            gate,
+        );
+        pass.log.push(same_entry(&entry));
+        entry
     }
 
     /// Runs the command and gives its entry, without waiting: no take is refused. `Err` where a node that it takes was

@@ -3,9 +3,9 @@ ghost use Rattle.entity_recs.specs.Commands.{Command, command_of};
 ghost use Rattle.ruled_words.specs.Passes.{PassView, fixed_in};
 ghost use Rattle.region_locks.specs.Turns.{turn_of};
 ghost use Rattle.region_locks.specs.Pursuits.{IsGoingOn, WasRefused, calls_left, command_pursued};
-ghost use Rattle.region_locks.specs.Moves.{IsRunning, NoTakeWasRefused};
-ghost use Rattle.region_locks.specs.Points.{has_entry};
-ghost use Rattle.region_locks.specs.Moments.{IsAtPoint, HasLogged, RunsCommand};
+ghost use Rattle.shared_moves.specs.Moves.{IsRunning, NoTakeWasRefused};
+ghost use Rattle.shared_moves.specs.Points.{has_entry};
+ghost use Rattle.shared_moves.specs.Moments.{IsAtPoint, HasLogged, RunsCommand};
 
 use crate::gate::{Gate, Moment, show_moment};
 use crate::gate_point::GatePoint;

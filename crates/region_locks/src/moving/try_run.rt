@@ -5,7 +5,7 @@ ghost use Rattle.core_steps.specs.Reads.{Refused};
 ghost use Rattle.ruled_words.specs.Passes.{fixed_in, IsOwn};
 ghost use Rattle.region_locks.specs.Quitting.{MayBegin};
 ghost use Rattle.region_locks.specs.Pursuits.{IsRefusedBy};
-ghost use Rattle.region_locks.specs.Moves.{HasRun, NoTakeWasRefused, WasNotRun, IsRunning, IsCause};
+ghost use Rattle.shared_moves.specs.Moves.{HasRun, NoTakeWasRefused, WasNotRun, IsRunning, IsCause};
 
 use crate::again::Again;
 use crate::gate::Gate;

@@ -6,9 +6,9 @@ use Rattle.ruled_words.specs.Starts.{world_at_start}
 use Rattle.ruled_words.specs.Rule.{HasSomeRooms}
 use Rattle.ruled_words.specs.Passes.{PassView, TableView, IsPassOf, fixed_in, sight_of}
 use Rattle.ruled_words.specs.Ends.{Closes}
-use Rattle.region_locks.proofs.EndedLogs.{left_here, passes_count, is_closed}
-use Rattle.region_locks.proofs.EndedPasses.{takes_at_close, refusals_held}
-use Rattle.region_locks.proofs.RunWorlds.{entry_in_place, world_now}
+use Rattle.shared_moves.proofs.EndedLogs.{left_here, passes_count, is_closed}
+use Rattle.shared_moves.proofs.EndedPasses.{takes_at_close, refusals_held}
+use Rattle.shared_moves.proofs.RunWorlds.{entry_in_place, world_now}
 use Rattle.region_locks.proofs.table.NodeTable.close.Goals as goal
 
 pub end_all-first-requires-clause-own : goal.end_all-first-requires-clause-own

@@ -3,7 +3,7 @@ use Rattle.entity_recs.specs.declared.effect.Entry.{Entry}
 use Rattle.entity_recs.specs.Commands.{command_of}
 use Rattle.ruled_words.specs.Passes.{fixed_in}
 use Rattle.region_locks.specs.Pursuits.{HasGoneOn, WasRefused, entry_committed}
-use Rattle.region_locks.specs.Moves.{IsRunning}
+use Rattle.shared_moves.specs.Moves.{IsRunning}
 use Rattle.region_locks.proofs.Running.{at_computed, in_hand_computed, runs_on, runs_done, runs_refused, none_refused}
 use Rattle.region_locks.proofs.table.NodeTable.step_gated.Goals as goal
 

@@ -2,7 +2,7 @@ use Rattle.std.proofs.Common.{rules, length}
 use Rattle.entity_recs.specs.Commands.{command_of}
 use Rattle.ruled_words.specs.Passes.{fixed_in, IsPassOf}
 use Rattle.region_locks.specs.Turns.{has_command_in_hand}
-use Rattle.region_locks.specs.Moves.{NoTakeWasRefused}
+use Rattle.shared_moves.specs.Moves.{NoTakeWasRefused}
 use Rattle.region_locks.proofs.Running.{runs_command, is_done, has_run, was_not_run, none_refused_since, at_rest}
 use Rattle.region_locks.proofs.table.NodeTable.try_run.Goals as goal
 

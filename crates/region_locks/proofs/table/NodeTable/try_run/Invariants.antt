@@ -2,7 +2,7 @@ use Rattle.std.proofs.Common.{length}
 use Rattle.entity_recs.specs.Commands.{command_of}
 use Rattle.ruled_words.specs.Passes.{fixed_in}
 use Rattle.region_locks.specs.Pursuits.{calls_left}
-use Rattle.region_locks.specs.Moves.{IsRunning, NoTakeWasRefused}
+use Rattle.shared_moves.specs.Moves.{IsRunning, NoTakeWasRefused}
 use Rattle.region_locks.proofs.table.NodeTable.try_run.Given as goal
 
 abbrev pub invariant-loop-turn : goal.invariant-loop-turn
