@@ -37,6 +37,9 @@ pub mod Gives
 pub mod Seating
 pub mod Readings
 pub mod Closing
+pub mod NewPasses
+pub mod Relinking
+pub mod RunWorlds
 pub mod Starting
 pub mod Worlds
 pub mod StartLinks

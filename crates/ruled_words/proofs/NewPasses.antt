@@ -17,8 +17,9 @@ use Rattle.ruled_words.specs.Going.{MayGo}
 use Rattle.ruled_words.specs.Plays.{IsSoundSight}
 use Rattle.core_seats.specs.Sound.{IsSound}
 use Rattle.core_seats.specs.Ready.{is_resolving}
-use Rattle.ruled_words.specs.Sights.{no_tally}
-use Rattle.ruled_words.specs.Passes.{IsPassOf, setting_of}
+use Rattle.ruled_words.specs.Hands.{IsPlain}
+use Rattle.ruled_words.specs.Sights.{SightView, no_tally}
+use Rattle.ruled_words.specs.Passes.{PassView, IsPassOf, setting_of, sight_of}
 use Rattle.ruled_words.specs.declared.setting.Setting.{Setting}
 use Rattle.ruled_words.specs.NewPasses.{new_pass, view_with_made, other_pass, new_passes}
 
@@ -109,3 +110,17 @@ pub others_more : (table : TableId) (setting : Setting) (rooms : List ℕ) (i : 
 others_more table setting rooms i least =
     let count : i + 1 - 1 ≡ i - 1 + 1 = omega (arith, least) in
     ap (λ (n : ℕ). map (other_pass table setting rooms) (range_with_len 1 n)) count ∙ map-range_with_len_more (other_pass table setting rooms) 1 (i - 1) i (omega (arith, least))
+
+-- the hand of a new seat is the new pass of that seat
+pub new_hand : (hand : PassView) (table : TableId) (setting : Setting) (sight : SightView) → hand.table ≡ table → hand.setting ≡ setting → sight_of hand ≡ sight → sight.tally ≡ no_tally
+    → IsPlain hand → hand ≡ new_pass table setting sight.number sight.view
+new_hand hand table setting sight at knows seat none plain = λ i. record {
+  table = at i;
+  setting = knows i;
+  number = ap (λ (s : SightView). s.number) seat i;
+  given = plain.given i;
+  quits = plain.quits i;
+  effect = plain.effect i;
+  view = ap (λ (s : SightView). s.view) seat i;
+  tally = (ap (λ (s : SightView). s.tally) seat ∙ none) i;
+}

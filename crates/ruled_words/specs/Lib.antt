@@ -9,6 +9,7 @@ pub mod WordSteps
 pub mod Plays
 pub mod Passes
 pub mod Hands
+pub mod NewPasses
 pub mod Loads
 pub mod Straight
 pub mod Tries

@@ -177,6 +177,7 @@ impl Hand {
         ensures setting { (self.new.setting ≡ self.old.setting) × (result.setting ≡ self.old.setting) }
         ensures first { sight_of self.new ≡ with_one_made (sight_of self.old) }
         ensures made { sight_of result ≡ sight_made room (sight_of self.old) }
+        ensures plain { IsPlain self.new × IsPlain result }
     {
         let place = make(words, &mut self.place, room);
         let setting = self.setting;

@@ -1,6 +1,5 @@
 -- Lemmas on moves and their passes.
 pub mod EndedPasses
 pub mod EndedLogs
-pub mod RunWorlds
 pub mod Runs
 pub mod PassRuns

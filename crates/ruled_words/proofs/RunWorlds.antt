@@ -1,9 +1,10 @@
 -- The world of a closed table's words is that of the run.
-use Rattle.std.proofs.Common.{◌≡◌, ℕ, zero, suc, true, List, [], ◌∷◌, map, refl, sym, ap, ◌∙◌, subst, Option, Some, None}
+use Rattle.std.proofs.Common.{◌≡◌, ℕ, zero, suc, true, All, List, [], ◌∷◌, map, refl, sym, ap, ◌∙◌, subst, Option, Some, None}
 use Rattle.std.specs.List.{AllByRecursion}
 use Rattle.std.specs.List.Sorted.{IsStrictlyIncreasing}
 use Rattle.std.specs.Option.{option_map}
 use Rattle.std.proofs.lemmas.Bool.{eq-eqb, or_left, or_right}
+use Rattle.std.proofs.lemmas.List.Elements.{All-from_recursion}
 use Rattle.std.proofs.lemmas.Option.{none-some, same_Some}
 use Rattle.entity_recs.specs.declared.rec.Rec.{Rec}
 use Rattle.entity_recs.specs.Worlds.{World}
@@ -11,11 +12,12 @@ use Rattle.move_journal.specs.Lists.{IsWorldOf}
 use Rattle.world_tree.specs.Live.{record_at, live_in, IsEntry}
 use Rattle.world_tree.specs.Worlds.{WorldView, record_of}
 use Rattle.core_steps.specs.Nodes.{Fixed, has}
+use Rattle.core_steps.specs.Reads.{View}
 use Rattle.core_steps.specs.Stands.{IsStart}
 use Rattle.core_steps.proofs.Runs.{ids_of_records}
 use Rattle.core_seats.proofs.NearLists.{AreFound, found_at_ids}
 use Rattle.ruled_words.specs.Starts.{world_at_start}
-use Rattle.ruled_words.specs.Ends.{record_in}
+use Rattle.ruled_words.specs.Ends.{record_in, Closes, ClosesInto}
 
 -- where each place has what the function makes of the other's record, so have the live records
 live_mapped : (f : Rec → Rec) (xs ys : List (Option Rec)) → ((i : ℕ) → record_at ys i ≡ option_map f (record_at xs i)) → live_in ys ≡ map f (live_in xs)
@@ -92,3 +94,21 @@ module _ (F : Fixed) (words : List ℕ) (now : World) (before : WorldView) (star
       let live = records_now ∙ sym (live_mapped (record_in words) before.records after.records records) in
       let own = ids_of_records now.record_of now.ids (λ v h. (entry v (subst (λ (xs : List ℕ). has xs v ≡ true) ids h)).own_id) in
       record { ids = sym own ∙ ap (map (λ (r : Rec). r.id)) live; records = live }
+
+-- what holds of the record of each id of a list
+all_taken : (P : Rec → Type 0) (f : ℕ → Rec) (ids : List ℕ) → ((id : ℕ) → has ids id ≡ true → P (f id)) → AllByRecursion P (map f ids)
+all_taken P f [] each = tt
+all_taken P f (id ∷ ids) each = (each id (or_left _ _ (eq-eqb id id refl)), all_taken P f ids (λ v live. each v (or_right _ _ live)))
+
+-- the world whose live records are those of the run
+pub closes_into : (F : Fixed) (words : List ℕ) (view : View) (closes : Closes F words view) (world : WorldView) → IsWorldOf closes.now (live_in world.records) → ClosesInto F world view
+closes_into F words view closes world now = record {
+  history = closes.history;
+  legal = closes.legal;
+  items = closes.items;
+  rising = closes.rising;
+  run_is = subst (λ (w : World). IsWorldOf w (live_in world.records)) closes.tied now;
+  taken = subst (λ (rs : List Rec). All (λ (r : Rec). F.takes r ≡ true) rs) now.records
+      (All-from_recursion (λ (r : Rec). F.takes r ≡ true) (map closes.now.record_of closes.now.ids)
+      (all_taken (λ (r : Rec). F.takes r ≡ true) closes.now.record_of closes.now.ids (λ id live. closes.taken id (subst (λ (ids : List ℕ). has ids id ≡ true) closes.ids live))));
+}
