@@ -3,23 +3,19 @@ use Rattle.std.proofs.Common.{◌≡◌, ℕ, zero, suc, ◌+◌, ◌<◌, ◌�
 use Rattle.std.specs.Prelude.{◌==◌, ◌||◌}
 use Rattle.std.specs.List.{AllByRecursion, range_with_len, flat_map}
 use Rattle.std.specs.List.Sorted.{IsPermutation, IsStrictlyIncreasing}
-use Rattle.std.proofs.lemmas.Bool.{cases_eq, eq-eqb, ne_eqb, or_left, or_right, cond-true, cond-false}
+use Rattle.std.proofs.lemmas.Bool.{cases_eq, eq-eqb, ne_eqb, or_left, cond-true, cond-false}
 use Rattle.std.proofs.lemmas.List.{append-nil}
 use Rattle.std.proofs.lemmas.List.Elements.{All-from_recursion, recursion_from_All}
 use Rattle.atomic_table.specs.Seated.{TableId}
-use Rattle.entity_recs.specs.declared.rec.Rec.{Rec}
-use Rattle.entity_recs.specs.Worlds.{World}
 use Rattle.entity_recs.specs.Histories.{Item, places_of}
-use Rattle.move_journal.specs.Lists.{IsWorldOf}
-use Rattle.world_tree.specs.Live.{live_in}
 use Rattle.world_tree.specs.Worlds.{WorldView}
-use Rattle.core_steps.specs.Nodes.{Fixed, has}
+use Rattle.core_steps.specs.Nodes.{Fixed}
 use Rattle.core_steps.specs.Reads.{Ended, View}
 use Rattle.core_steps.specs.Stands.{ended_log, is_ended, items_below}
 use Rattle.ruled_words.specs.Sights.{SightView, with_one_ended}
 use Rattle.ruled_words.specs.Going.{IsAtRest}
 use Rattle.ruled_words.specs.Passes.{PassView, sight_of, IsPassOf}
-use Rattle.ruled_words.specs.Ends.{AreEndedBelow, log_in, logs_in, Closes}
+use Rattle.ruled_words.specs.Ends.{AreEndedBelow, log_in, logs_in, ClosesInto}
 use Rattle.shared_moves.specs.Closing.{HasNoCommand, with_passes_ended, sight_at_end, IsClosed}
 use Rattle.shared_moves.proofs.EndedPasses.{AllCanEnd, all_can_end}
 
@@ -171,29 +167,22 @@ passes_count passes count numbers = counted passes 0 count numbers
 
 -- ---- what is read at the end, by pass
 
--- what holds of the record of each id of a list
-all_taken : (P : Rec → Type 0) (f : ℕ → Rec) (ids : List ℕ) → ((id : ℕ) → has ids id ≡ true → P (f id)) → AllByRecursion P (map f ids)
-all_taken P f [] each = tt
-all_taken P f (id ∷ ids) each = (each id (or_left _ _ (eq-eqb id id refl)), all_taken P f ids (λ v live. each v (or_right _ _ live)))
-
-module _ (F : Fixed) (words : List ℕ) (passes : List PassView) (sight : SightView) (left : IsLeftAfter passes sight) (closes : Closes F words sight.view) (made : sight.view.made ≡ length passes) where
+module _ (F : Fixed) (world : WorldView) (passes : List PassView) (sight : SightView) (left : IsLeftAfter passes sight) (closes : ClosesInto F world sight.view) (made : sight.view.made ≡ length passes) where
   logs_are : logs_in sight.view ≡ flat_map (λ (l : List Item). l) (map (λ (p : PassView). p.view.log) passes)
   unfolding items_below
   logs_are =
       ap (λ (n : ℕ). items_below n (log_in sight.view)) (made ∙ sym (zero-add (length passes)))
       ∙ items_from (log_in sight.view) 0 passes left.logs
 
-  pub is_closed : (world : WorldView) → IsWorldOf closes.now (live_in world.records) → IsClosed F (map (λ (p : PassView). p.view.log) passes) world
-  is_closed world now = record {
+  pub is_closed : IsClosed F (map (λ (p : PassView). p.view.log) passes) world
+  is_closed = record {
     history = closes.history;
     legal = closes.legal;
     items = subst (IsPermutation closes.history) logs_are closes.items;
     rising = All-from_recursion (λ (log : List Item). IsStrictlyIncreasing (places_of log)) (map (λ (p : PassView). p.view.log) passes)
         (each_log (λ (log : List Item). IsStrictlyIncreasing (places_of log)) (log_in sight.view) 0 passes left.logs (λ n least below. closes.rising n (omega (arith, below, made))));
-    run_is = subst (λ (w : World). IsWorldOf w (live_in world.records)) closes.tied now;
-    taken = subst (λ (rs : List Rec). All (λ (r : Rec). F.takes r ≡ true) rs) now.records
-        (All-from_recursion (λ (r : Rec). F.takes r ≡ true) (map closes.now.record_of closes.now.ids)
-        (all_taken (λ (r : Rec). F.takes r ≡ true) closes.now.record_of closes.now.ids (λ id live. closes.taken id (subst (λ (ids : List ℕ). has ids id ≡ true) closes.ids live))));
+    run_is = closes.run_is;
+    taken = closes.taken;
   }
 
 -- the seat that is left of a table's passes

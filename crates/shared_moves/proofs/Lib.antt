@@ -3,3 +3,4 @@ pub mod EndedPasses
 pub mod EndedLogs
 pub mod Runs
 pub mod PassRuns
+pub mod NewPasses

@@ -36,18 +36,22 @@ impl<A> Model for Pass<A> {
 }
 
 impl<A> Pass<A> {
-    /// The pass of a hand whose seat is new, with room for `room` entries, as its seat has. It has room for all that a
-    /// move can touch. The only error is that memory is refused.
-    pub(crate) fn new(alloc: Global, hand: Hand, room: u32) -> Result<Pass<A>, AllocError>
-        requires { IsFresh room hand }
+    /// The pass of a hand whose seat is new, with room for `room` entries, as its seat has, and for `near_room` records near
+    /// a move. The only error is that memory is refused.
+    pub(crate) fn new(
+        alloc: Global,
+        hand: Hand,
+        room: u32,
+        near_room: usize,
+    ) -> Result<Pass<A>, AllocError>
+        requires { IsFresh near_room room hand }
         ensures { IfOk result (λ p. p ≡ hand) }
     {
-        let near = NearList::new(alloc, 64 + hand.setting().records)?;
         Ok(Pass {
             hand,
             log: Log::new(alloc, room)?,
             refusals: Refusals::new(),
-            near,
+            near: NearList::new(alloc, near_room)?,
             of: PhantomData,
         })
     }

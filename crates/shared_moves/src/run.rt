@@ -37,21 +37,4 @@ impl<'a, A: Action> Shared<'a, A> {
         pass.log.push(same_entry(&entry));
         entry
     }
-
-    /// Runs the command and gives its entry, without waiting: no take is refused. `Err` where a node that it takes was
-    /// held by another pass, at the first such take; then nothing is committed, the pass holds no node, and the command
-    /// may be tried again.
-    pub fn try_run<G: Gate>(&self, pass: &mut Pass<A>, cmd: Cmd, gate: &G) -> Result<Entry, Again>
-        requires own { IsOwn A.meaning self.now pass.old }
-        requires free { MayBegin pass.old }
-        requires live { has (fixed_in A.meaning self.now).start.ids cmd.slot ≡ true }
-        requires serves { cmd.slot % length self.now.rooms ≡ pass.old.number }
-        ensures ok { IfOk result (λ e. HasRun (fixed_in A.meaning self.now)
-            (length self.now.rooms) self.now.table pass.old pass.new (command_of cmd) e) }
-        ensures served { OnOk result (NoTakeWasRefused pass.old pass.new) }
-        ensures err { IfErr result (λ a. WasNotRun (fixed_in A.meaning self.now)
-            (length self.now.rooms) self.now.table pass.old pass.new (command_of cmd) a) }
-    {
-        self.table.try_run(pass, cmd, gate)
-    }
 }

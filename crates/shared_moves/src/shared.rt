@@ -4,13 +4,14 @@ ghost use Rattle.core_steps.specs.declared.sizes.TheConstants.{MOST_SEATS};
 ghost use Rattle.world_tree.specs.Live.{live_in};
 ghost use Rattle.world_tree.specs.Worlds.{IsLinked};
 ghost use Rattle.ruled_words.specs.Numbers.{HasSmallNumbers};
-ghost use Rattle.ruled_words.specs.Passes.{fixed_in, setting_of, IsPassOf, IsOwn};
+ghost use Rattle.ruled_words.specs.Passes.{fixed_in, setting_of, sight_of, IsPassOf, IsOwn};
 ghost use Rattle.ruled_words.specs.Sights.{AreRefusalsServed};
 ghost use Rattle.ruled_words.specs.NewPasses.{new_passes};
-ghost use Rattle.shared_moves.specs.Closing.{tally_of_all, AreRefusalsHeld, HasNoCommand, log_from, IsClosed};
+ghost use Rattle.shared_moves.specs.Closing.{tally_of_all, AreRefusalsHeld, HasNoCommand, sight_at_end, log_from, IsClosed};
+ghost use Rattle.shared_moves.specs.PassParts.{AreFresh};
 
 use crate::pass::{Pass, PassList};
-use entity_recs::Action;
+use entity_recs::{Action, SLOTS};
 use move_journal::LogList;
 use ruled_words::{Hand, SharedWords};
 use std::alloc::{AllocError, Global};
@@ -25,25 +26,28 @@ pub struct Shared<'a, A: Action> {
 
 impl<'a, A: Action> Model for Shared<'a, A> {
     ghost use Rattle.ruled_words.specs.Passes.{TableView};
+    ghost use Rattle.ruled_words.specs.Rule.{HasSomeRooms};
 
     ghost Value = { TableView A };
 
     ghost view = { λ s. s.words };
+
+    ghost invariant = { λ s. HasSomeRooms s.words.rooms };
 }
 
-/// A pass for each hand, whose seat is new, with as much room as its seat has.
+/// A pass for each hand, whose seat is new, with as much room as its seat has, and for `near_room` records near a move.
 fn make_passes<A: Action>(
     alloc: Global,
     hands: Vec<Hand>,
     room: &[u32],
+    near_room: usize,
 ) -> Result<PassList<A>, AllocError>
-    requires same { length hands.items ≡ length room.now }
-    requires fresh { (i : ℕ) → i < length room.now → IsFresh (slice_index room.now i) (get hands.items i) }
+    requires { AreFresh near_room room.now hands.items }
     ensures { IfOk result (λ passes. passes.items ≡ hands.items) }
 {
     let mut passes = Vec::with_capacity(alloc, room.len())?;
-    for (hand, room) in hands.into_iter().zip(room) {
-        passes.push(Pass::new(alloc, hand, *room)?)?;
+    for hand in hands {
+        passes.push(Pass::new(alloc, hand, room[passes.len()], near_room)?)?;
     }
     Ok(passes)
 }
@@ -92,7 +96,9 @@ impl<'a, A: Action> Shared<'a, A> {
         ensures linked { OnOk result (IsLinked world.now) }
     {
         let (words, hands) = SharedWords::open(alloc, action, world, room)?;
-        let passes = make_passes(alloc, hands, room)?;
+        // All players, and all that live at the start.
+        let near_room = SLOTS + words.rules().count_records();
+        let passes = make_passes(alloc, hands, room, near_room)?;
         Ok((Shared { words }, passes))
     }
 
