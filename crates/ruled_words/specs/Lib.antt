@@ -12,6 +12,7 @@ pub mod Hands
 pub mod Loads
 pub mod Straight
 pub mod Tries
+pub mod GivingUp
 pub mod Visits
 pub mod Sensing
 pub mod Writing
