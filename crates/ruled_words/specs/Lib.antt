@@ -13,6 +13,7 @@ pub mod NewPasses
 pub mod Loads
 pub mod Straight
 pub mod Tries
+pub mod GivingUp
 pub mod Visits
 pub mod Sensing
 pub mod Writing

@@ -8,6 +8,7 @@ ghost use Rattle.ruled_words.specs.Sights.{with_one_made, sight_made, with_one_e
 ghost use Rattle.ruled_words.specs.Plays.{IsSoundSight};
 ghost use Rattle.ruled_words.specs.Passes.{sight_of, next_of_pass, word_after, IsReady, HasGone};
 ghost use Rattle.ruled_words.specs.WordSteps.{word_by, MayBe};
+ghost use Rattle.ruled_words.specs.GivingUp.{quitting_pass};
 ghost use Rattle.ruled_words.specs.Hands.{IsPlain, given_to, pass_keeping, pass_view, plain_pass};
 ghost use Rattle.entity_recs.specs.Commands.{command_of};
 
@@ -152,6 +153,29 @@ impl Hand {
         ensures stored { (new : ℕ) → step ≡ WordStep.Store new → result ≡ new }
     {
         step_as::<A, Brand, Effect>(words, effect, &mut self.place, word, step)
+    }
+
+    /// The hand makes the step that comes next where giving up begins with it, or doesn't.
+    pub(crate) fn yield_on<A: Action>(
+        &mut self,
+        words: &Words<A>,
+        begins: bool,
+        word: usize,
+        step: WordStep,
+    ) -> u64
+        requires ready { IsReady (fixed_by A.meaning words.now.key.action.value words.now.key.world.value)
+            (length words.now.key.rooms.items) words.now.table_id (quitting_pass self.old begins) self.old word }
+        requires wide { words.now.table_id.words ≡ TABLE_WORDS }
+        requires left { (found : ℕ) → word_after (fixed_by A.meaning words.now.key.action.value
+            words.now.key.world.value) (quitting_pass self.old begins) found ≡ word_by step found }
+        requires may { let F = fixed_by A.meaning words.now.key.action.value words.now.key.world.value in
+            MayBe step F self.old.view (the_next (next_of_pass F (quitting_pass self.old begins))) word }
+        ensures gone { HasGone (fixed_by A.meaning words.now.key.action.value words.now.key.world.value)
+            (length words.now.key.rooms.items) (quitting_pass self.old begins) result self.new }
+        ensures plain { IsPlain self.old × IsPlain self.new }
+        ensures stored { (new : ℕ) → step ≡ WordStep.Store new → result ≡ new }
+    {
+        step_as::<A, Brand, bool>(words, &begins, &mut self.place, word, step)
     }
 
     /// The hand looks at the count of commits, with no command in hand.

@@ -1,12 +1,13 @@
 ghost use Rattle.std.specs.Prelude.{◌≡◌, ℕ, List, [], ◌∷◌, ◌++◌, ◌+◌, ◌^◌, ◌<◌, ◌≤◌, ◌%◌, true, length, is_some};
 ghost use Rattle.entity_recs.specs.Commands.{command_of};
 ghost use Rattle.core_steps.specs.declared.step.StepKind.TheVariants.{Commit};
-ghost use Rattle.core_steps.specs.Machine.{ReadPlayer, IsPending, index_of, kind_of};
+ghost use Rattle.core_steps.specs.Machine.{ReadPlayer, YieldCount, IsPending, index_of, kind_of};
 ghost use Rattle.core_steps.specs.Points.{Idle};
 ghost use Rattle.core_steps.specs.Reads.{record_read};
 ghost use Rattle.core_seats.specs.Nexts.{the_next};
 ghost use Rattle.core_seats.specs.Seats.{view_of};
 ghost use Rattle.ruled_words.specs.Going.{IsAtRest, view_looked};
+ghost use Rattle.ruled_words.specs.GivingUp.{quitting_pass};
 ghost use Rattle.ruled_words.specs.Hands.{IsOwnHand, IsPlain, begun_with, pass_keeping, pass_view, plain_pass, still_keeping};
 ghost use Rattle.ruled_words.specs.Plays.{IsSoundSight};
 ghost use Rattle.ruled_words.specs.Holders.{IsFoundNode};
@@ -87,6 +88,31 @@ impl<'a, A: Action> SharedWords<'a, A> {
         ensures stored { (new : ℕ) → step ≡ WordStep.Store new → result ≡ new }
     {
         hand.resolve_on(&self.table.shared, effect, word, step)
+    }
+
+    /// The hand makes the step that comes next where giving up begins with it, or doesn't.
+    pub(crate) fn step_yielding(
+        &self,
+        hand: &mut Hand,
+        begins: bool,
+        word: usize,
+        step: WordStep,
+    ) -> u64
+        requires own { IsOwn A.meaning self.now (quitting_pass hand.old begins) }
+        requires comes { is_some (next_in A.meaning self.now (quitting_pass hand.old begins)) ≡ true }
+        requires index { word ≡ index_of hand.old.view
+            (the_next (next_in A.meaning self.now (quitting_pass hand.old begins))) }
+        requires left { (found : ℕ) → word_after (fixed_in A.meaning self.now) (quitting_pass hand.old begins) found
+            ≡ word_by step found }
+        requires may { MayBe step (fixed_in A.meaning self.now) hand.old.view
+            (the_next (next_in A.meaning self.now (quitting_pass hand.old begins))) word }
+        ensures pass { hand.new ≡ after_in A.meaning self.now result (quitting_pass hand.old begins) }
+        ensures own { IsOwnHand A.meaning self.now hand.new }
+        ensures counted { the_next (next_in A.meaning self.now (quitting_pass hand.old begins)) ≡ YieldCount
+            → hand.old.view.seen ≤ result }
+        ensures stored { (new : ℕ) → step ≡ WordStep.Store new → result ≡ new }
+    {
+        hand.yield_on(&self.table.shared, begins, word, step)
     }
 
     /// The hand makes the next step of its pass, which is the hand with this seat in plain values and the effect that is
