@@ -4,3 +4,4 @@ pub mod EndedLogs
 pub mod Runs
 pub mod PassRuns
 pub mod NewPasses
+pub mod Causes

@@ -15,9 +15,10 @@ use Rattle.ruled_words.specs.Hands.{plain_pass}
 use Rattle.ruled_words.specs.declared.setting.Setting.{Setting}
 use Rattle.ruled_words.proofs.TriedTakes.{counted_more}
 use Rattle.shared_moves.specs.InHand.{MayBegin}
-use Rattle.shared_moves.specs.Moves.{HasRun}
+use Rattle.shared_moves.specs.declared.again.Again.{Again}
+use Rattle.shared_moves.specs.Moves.{HasRun, IsCause, WasNotRun}
 use Rattle.shared_moves.specs.PassParts.{IsKeptBeside}
-use Rattle.shared_moves.specs.Runs.{HasMoved}
+use Rattle.shared_moves.specs.Runs.{HasMoved, HasLeft}
 
 one_more : (n m k l : ℕ) → n ≡ suc m → k ≡ 0 → l ≡ 0 → n + k ≡ m + l + 1
 one_more n m k l is one two = omega (arith, is, one, two)
@@ -65,6 +66,23 @@ module _ (F : Fixed) (passes : ℕ) (table : TableId) (p : PassView) (own : IsPa
       where
         next_is : (n : ℕ) → suc n ≡ n + 1
         next_is n = omega arith
+
+  -- the command was given up
+  pub was_not_run : (new : PassView) (c : Command) (a : Again) (left : HasLeft F passes c p new) → IsPassOf F passes table new → IsCause F passes p.number c left.r a → WasNotRun F passes table p new c a
+  was_not_run new c a left own_new cause = record {
+    own = own_new;
+    rests = record { given = ap (λ (q : PassView). q.given) left.hand; idle = ap (λ (q : PassView). q.view.point) left.hand };
+    number = ap (λ (q : PassView). q.number) left.hand;
+    room = ap (λ (q : PassView). q.view.room) left.hand;
+    log = ap (λ (q : PassView). q.view.log) left.hand;
+    seen = left.seen;
+    given = one_more new.tally.begun p.tally.begun _ _ left.begun (none_given new.given (ap (λ (q : PassView). q.given) left.hand)) (none_given p.given free.none);
+    counted = ap (λ (q : PassView). q.view.refusals) left.hand;
+    r = left.r;
+    kept = ap (λ (q : PassView). q.view.refused) left.hand;
+    listed = left.listed;
+    fault = subst (λ (n : ℕ). IsCause F passes n c left.r a) (sym (ap (λ (q : PassView). q.number) left.hand)) cause;
+  }
 
 -- the near list has room for all that a move can touch
 pub near_room : (F : Fixed) (passes : ℕ) (table : TableId) (p : PassView) (log : JournalView) (refusals : Refusals) (near : NearView) → IsPassOf F passes table p

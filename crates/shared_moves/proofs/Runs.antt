@@ -12,7 +12,8 @@ use Rattle.core_steps.specs.Reads.{View, without_command, region_in}
 use Rattle.core_seats.specs.Ready.{is_resolving}
 use Rattle.core_seats.specs.declared.refusals.Refusals.{Refusals}
 use Rattle.core_seats.specs.Refusals.{AreRefusals}
-use Rattle.ruled_words.specs.Sights.{Tally}
+use Rattle.ruled_words.specs.GivingUp.{NoTakeWasRefused, HasGivenUp, IsRefusedBy, view_after_giving_up}
+use Rattle.ruled_words.specs.Sights.{HeldWord, Tally}
 use Rattle.ruled_words.specs.Passes.{PassView}
 use Rattle.ruled_words.specs.Hands.{pass_keeping}
 use Rattle.ruled_words.specs.Straight.{in_view, in_view_with, taking_leaves, at_point, nodes_read, HasMoreInFront, IsTriedOn}
@@ -22,7 +23,7 @@ use Rattle.ruled_words.specs.Writing.{HasWritten, all_written}
 use Rattle.shared_moves.specs.declared.gate_point.GatePoint.TheVariants.{Leaves, Computed, Committed}
 use Rattle.shared_moves.specs.InHand.{HoldsLeavesAlone, is_checking, item_of}
 use Rattle.shared_moves.specs.Moments.{IsAtPoint}
-use Rattle.shared_moves.specs.Runs.{HoldsLeavesOf, HasReadAll, HasMoved, all_read}
+use Rattle.shared_moves.specs.Runs.{HoldsLeavesOf, HasReadAll, HasMoved, HasLeft, HasInHand, all_read}
 use Rattle.ruled_words.proofs.LoadedWords.{visiting_same}
 use Rattle.ruled_words.proofs.TriedTakes.{more_again, more_still, tried_again}
 
@@ -37,9 +38,47 @@ some_entry a b e = cc
 pub refusals_kept : (r : Refusals) (v w : View) → v.refusals ≡ w.refusals → v.refused ≡ w.refused → AreRefusals r v → AreRefusals r w
 refusals_kept r v w count last are = record { count = are.count ∙ count; last = are.last ∙ last }
 
+pub none_since : (a b c : PassView) → NoTakeWasRefused a b → NoTakeWasRefused b c → NoTakeWasRefused a c
+none_since a b c x y = record { refusals = y.refusals ∙ x.refusals; refused = y.refused ∙ x.refused; listed = y.listed ∙ x.listed }
+
+pub none_at : (old new : PassView) (v : View) (t : Tally) → new ≡ in_view_with old v t → v.refusals ≡ old.view.refusals → v.refused ≡ old.view.refused → t.refused ≡ old.tally.refused
+    → NoTakeWasRefused old new
+none_at old new v t is count last listed = record {
+  refusals = ap (λ (p : PassView). p.view.refusals) is ∙ count;
+  refused = ap (λ (p : PassView). p.view.refused) is ∙ last;
+  listed = ap (λ (p : PassView). p.tally.refused) is ∙ listed;
+}
+
+-- ---- a command that is given up
+
+in_its_view : (old new : PassView) (v : View) (t : Tally) → new ≡ in_view_with old v t → new ≡ in_view_with old new.view new.tally
+in_its_view old new v t is = is ∙ (λ i. in_view_with old (sym (ap (λ (p : PassView). p.view) is) i) (sym (ap (λ (p : PassView). p.tally) is) i))
+
+pub has_left : (F : Fixed) (passes : ℕ) (c : Command) (start now new : PassView) → HasInHand c start now → HasGivenUp F passes now new → HasLeft F passes c start new
+has_left F passes c start now new in_hand up = record {
+  r = up.r;
+  holder = up.holder;
+  leaves = up.leaves;
+  fault = subst (λ (n : ℕ). IsRefusedBy F passes n c up.r up.holder up.leaves) (ap (λ (p : PassView). p.number) in_hand.hand)
+      (subst (λ (d : Command). IsRefusedBy F passes now.number d up.r up.holder up.leaves) in_hand.cmd up.fault);
+  seen = subst (λ (n : ℕ). n ≤ new.view.seen) (ap (λ (v : View). v.seen) in_hand.rest) up.seen;
+  hand = up.hand
+      ∙ ap (λ (p : PassView). in_view_with p (view_after_giving_up up.r new.view.seen now.view) new.tally) in_hand.hand
+      ∙ ap (λ (v : View). in_view_with start (view_after_giving_up up.r new.view.seen v) new.tally) in_hand.rest;
+  begun = up.begun ∙ in_hand.begun;
+  listed = up.listed ∙ ap (λ (hs : List HeldWord). (record { node = up.r.node; word = up.r.word }) ∷ hs) in_hand.listed;
+}
+
 -- ---- the leaves are taken
 
 module _ (F : Fixed) (c : Command) (words : List ℕ) (old at new : PassView) (first : at ≡ in_view_with old (taking_leaves F c words old.view) (record old.tally { begun = suc old.tally.begun })) where
+  -- the command is in hand, and no take was refused
+  pub begun_in_hand : HasInHand c old at
+  begun_in_hand = subst (HasInHand c old) (sym first) (record { hand = refl; rest = refl; cmd = refl; begun = refl; listed = refl })
+
+  pub none_begun : NoTakeWasRefused old at
+  none_begun = none_at old at _ _ first refl refl refl
+
   module _ (second : new ≡ tried_until at Checking new) where
     pub held_point : IsAtPoint new Leaves
     held_point = record {
@@ -100,7 +139,7 @@ module _ (F : Fixed) (old at new : PassView) (first : at ≡ in_view_with old (n
 
 -- ---- the whole move
 
-module _ (F : Fixed) (c : Command) (held : Held) (words : List ℕ) (q : Point) (e : Effect) (place : ℕ) (h0 h1 h2 h3 h4 : PassView)
+module _ (F : Fixed) (c : Command) (held : Held) (words : List ℕ) (q : Point) (h0 h1 h2 : PassView)
     (holds : HoldsLeavesOf F c held.own h0 h1) (again : h2 ≡ in_view h1 (record h1.view { again = words; point = q })) where
   -- the view after the own record was loaded again
   abbrev checked_view : View
@@ -109,17 +148,42 @@ module _ (F : Fixed) (c : Command) (held : Held) (words : List ℕ) (q : Point) 
   at_again : h2 ≡ in_view_with h0 checked_view h1.tally
   at_again = again ∙ ap (λ (p : PassView). in_view p (record p.view { again = words; point = q })) holds.hand
 
+  pub none_again : NoTakeWasRefused h1 h2
+  none_again = none_at h1 h2 _ _ again refl refl refl
+
+  pub in_hand_again : NoTakeWasRefused h0 h1 → HasInHand c h0 h2
+  in_hand_again none = record {
+    hand = in_its_view h0 h2 _ _ at_again;
+    rest = ap (λ (p : PassView). without_command p.view) at_again ∙ (λ i. record (without_command h0.view) { refusals = none.refusals i; refused = none.refused i });
+    cmd = ap (λ (p : PassView). p.view.cmd) at_again;
+    begun = ap (λ (p : PassView). p.tally.begun) at_again ∙ holds.begun;
+    listed = ap (λ (p : PassView). p.tally.refused) at_again ∙ none.listed;
+  }
+
   pub refusals_again : (r : Refusals) → AreRefusals r h1.view → AreRefusals r h2.view
   refusals_again r are = refusals_kept r h1.view h2.view (sym (ap (λ (p : PassView). p.view.refusals) again)) (sym (ap (λ (p : PassView). p.view.refused) again)) are
 
-  module _ (read : HasReadAll F e h2 h3) where
+  module _ (e : Effect) (h3 : PassView) (read : HasReadAll F e h2 h3) where
     at_read : h3 ≡ in_view_with h0 (all_read checked_view h3.view) h3.tally
     at_read = read.hand ∙ ap (λ (p : PassView). in_view_with p (all_read p.view h3.view) h3.tally) at_again
+
+    pub none_read : NoTakeWasRefused h0 h1 → NoTakeWasRefused h2 h3 → NoTakeWasRefused h0 h3
+    none_read one two = none_since h0 h2 h3 (none_since h0 h1 h2 one none_again) two
+
+    pub in_hand_read : NoTakeWasRefused h0 h1 → NoTakeWasRefused h2 h3 → HasInHand c h0 h3
+    in_hand_read one two =
+        let none = none_read one two in record {
+          hand = in_its_view h0 h3 _ _ at_read;
+          rest = ap (λ (p : PassView). without_command p.view) at_read ∙ (λ i. record (without_command h0.view) { refusals = none.refusals i; refused = none.refused i });
+          cmd = ap (λ (p : PassView). p.view.cmd) at_read;
+          begun = read.tried.begun ∙ ap (λ (p : PassView). p.tally.begun) again ∙ holds.begun;
+          listed = none.listed;
+        }
 
     pub again_still : words ≡ h3.view.again
     again_still = sym (ap (λ (p : PassView). p.view.again) at_read)
 
-    module _ (writes : HasWritten e place h3 h4) where
+    module _ (place : ℕ) (h4 : PassView) (writes : HasWritten e place h3 h4) where
       -- the view after all is written
       abbrev last_view : View
       last_view = all_written e place (all_read checked_view h3.view) h4.view
@@ -136,6 +200,9 @@ module _ (F : Fixed) (c : Command) (held : Held) (words : List ℕ) (q : Point) 
       module _ (h5 : PassView) (gives : h5 ≡ in_view h4 (without_command h4.view)) where
         at_end : h5 ≡ in_view_with h0 (without_command last_view) h4.tally
         at_end = gives ∙ ap (λ (p : PassView). in_view p (without_command p.view)) at_written
+
+        pub none_end : NoTakeWasRefused h0 h1 → NoTakeWasRefused h2 h3 → NoTakeWasRefused h3 h4 → NoTakeWasRefused h0 h5
+        none_end one two three = none_since h0 h4 h5 (none_since h0 h3 h4 (none_read one two) three) (none_at h4 h5 _ _ gives refl refl refl)
 
         pub refusals_end : (r : Refusals) → AreRefusals r h4.view → AreRefusals r h5.view
         refusals_end r are = refusals_kept r h4.view h5.view (sym (ap (λ (p : PassView). p.view.refusals) gives)) (sym (ap (λ (p : PassView). p.view.refused) gives)) are

@@ -10,6 +10,7 @@ pub use Rattle.ruled_words.specs.Sights
 pub use Rattle.ruled_words.specs.Passes
 pub use Rattle.ruled_words.specs.Holders
 pub use Rattle.ruled_words.specs.Straight
+pub use Rattle.ruled_words.specs.GivingUp
 pub use Rattle.ruled_words.specs.NewPasses
 pub use Rattle.core_steps.specs.Nodes
 pub use Rattle.core_steps.specs.Points as CorePoints

@@ -34,12 +34,6 @@ pub record HasRun (F : Fixed) (passes : ℕ) (table : TableId) (old new : PassVi
     pub listed : HasMoreInFront old.tally.refused new.tally.refused
     pub counted : new.view.refusals ≡ min (old.view.refusals + length listed.more) (2 ^ 64 - 1)
 
--- no take was refused: neither the pass's count of refused takes nor its last one has changed, and none is listed more
-pub record NoTakeWasRefused (old new : PassView) : Type 0 where
-  pub refusals : new.view.refusals ≡ old.view.refusals
-  pub refused : new.view.refused ≡ old.view.refused
-  pub listed : new.tally.refused ≡ old.tally.refused
-
 -- the refused take was of a leaf that the command wants, by the own record as loaded, and its word names the holder,
 -- which isn't this pass, with its leaves, which have that leaf
 pub record IsLeafHeld (F : Fixed) (passes own : ℕ) (c : Command) (r : Refused) (leaf holder leaves : ℕ) : Type 0 where

@@ -5,8 +5,9 @@ use Rattle.entity_recs.specs.declared.effect.Entry.{Entry}
 use Rattle.entity_recs.specs.Commands.{Command}
 use Rattle.core_steps.specs.Nodes.{Fixed}
 use Rattle.core_steps.specs.Points.{Checking, Resolving}
-use Rattle.core_steps.specs.Reads.{View, effect_loaded}
+use Rattle.core_steps.specs.Reads.{Refused, View, effect_loaded}
 use Rattle.core_steps.specs.Reads.{without_command}
+use Rattle.ruled_words.specs.GivingUp.{IsRefusedBy, view_after_giving_up}
 use Rattle.ruled_words.specs.Passes.{PassView}
 use Rattle.ruled_words.specs.Straight.{in_view_with, taking_leaves, at_point, HasMoreInFront, IsTriedOn}
 use Rattle.shared_moves.specs.InHand.{item_of}
@@ -52,3 +53,23 @@ pub record HasMoved (c : Command) (e : Entry) (old new : PassView) : Type 0 wher
   pub seq : e.seq ≡ c.seq
   pub place : old.view.seen ≤ e.place
   pub small : e.place + 1 < 2 ^ 64
+
+-- the hand began the command and gave it up, since this take was refused by the pass with this number, which has these
+-- leaves: it is the last refused one and is listed, one more is counted, and no smaller count was seen
+pub record HasLeft (F : Fixed) (passes : ℕ) (c : Command) (old new : PassView) : Type 0 where
+  pub r : Refused
+  pub holder : ℕ
+  pub leaves : ℕ
+  pub fault : IsRefusedBy F passes old.number c r holder leaves
+  pub seen : old.view.seen ≤ new.view.seen
+  pub hand : new ≡ in_view_with old (view_after_giving_up r new.view.seen old.view) new.tally
+  pub begun : new.tally.begun ≡ suc old.tally.begun
+  pub listed : new.tally.refused ≡ record { node = r.node; word = r.word } ∷ old.tally.refused
+
+-- the hand began the command and has it in hand: nothing is logged, and no take was refused
+pub record HasInHand (c : Command) (old now : PassView) : Type 0 where
+  pub hand : now ≡ in_view_with old now.view now.tally
+  pub rest : without_command now.view ≡ without_command old.view
+  pub cmd : now.view.cmd ≡ c
+  pub begun : now.tally.begun ≡ suc old.tally.begun
+  pub listed : now.tally.refused ≡ old.tally.refused

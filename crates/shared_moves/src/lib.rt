@@ -4,15 +4,18 @@
 pub use again::Again;
 pub use gate::{Gate, NoGate};
 pub use gate_point::GatePoint;
+pub use holder::{Holder, holder_in};
 pub use moment::Moment;
 pub use pass::{Pass, PassList};
 pub use shared::Shared;
+pub use walking::walk;
 
 mod again;
 mod gate;
 mod gate_point;
+mod holder;
 mod moment;
 mod pass;
 mod run;
 mod shared;
-mod walk;
+mod walking;

@@ -15,7 +15,7 @@ pub struct Holder {
 }
 
 /// Who holds a node, which is a leaf or not, by its word.
-pub(crate) fn holder_in(word: u64, is_leaf: bool) -> Holder
+pub fn holder_in(word: u64, is_leaf: bool) -> Holder
     requires { word ≢ 0 }
     ensures { (F : Fixed) (node : ℕ) → is_leaf ≡ core_nodes.is_leaf F node
         → IsHolderIn F word node result.number result.leaves }
