@@ -190,6 +190,11 @@ module _ (F : Fixed) (p : PassView) (e : Effect) (node : ℕ) (plain : IsPlain p
       ∙ ap (λ (w : ℕ). if found == 0 then w else found)
       (held_to_write F p.number node p.view.wanted (two_inner F (home F (record_read p.view.cmd.slot p.view.again)) (home F e.me) node (first_there (nodes_written F p.view e) node there)))
 
+  -- the hand after the take
+  pub first_made : (new : PassView) (found : ℕ) → IsPlain new → still_keeping new e ≡ pass_after F (the_next (next_of_pass F (pass_keeping p e))) found (pass_keeping p e)
+      → new ≡ in_view_with p (view_found F p.view (ClaimNode e node) found) (tally_after (ClaimNode e node) found (word_left F p.number p.view (ClaimNode e node) found) p.tally)
+  first_made new found plain_new after = with_effect_after F p e plain at (ClaimNode e node) (claims_first e (nodes_written F p.view e) node there) new found plain_new after
+
   pub first_tried : (new : PassView) (found : ℕ) (b : Bool) → b ≡ (found == 0) → IsPlain new → still_keeping new e ≡ pass_after F (the_next (next_of_pass F (pass_keeping p e))) found (pass_keeping p e)
       → HasTried p (if b then view_after_claim F e node p.view else p.view) new
   first_tried new found b same plain_new after =

@@ -104,7 +104,7 @@ served_keeps F r view (YieldNode n) node e is = cc
 served_keeps F r view YieldCount node e is = cc
 
 -- the view after a take that is refused
-refused_is : (F : Fixed) (view : View) (next : Next) (node found : ℕ) → node_taken next ≡ Some node → found ≢ 0 → view_found F view next found ≡ view_after_refusal node found view
+pub refused_is : (F : Fixed) (view : View) (next : Next) (node found : ℕ) → node_taken next ≡ Some node → found ≢ 0 → view_found F view next found ≡ view_after_refusal node found view
 refused_is F view (Begin c) node found e busy = cc
 refused_is F view LoadOwn node found e busy = cc
 refused_is F view LoadAgain node found e busy = cc
