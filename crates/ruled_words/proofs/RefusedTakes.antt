@@ -4,8 +4,10 @@ use Rattle.std.specs.Prelude.{◌==◌}
 use Rattle.std.proofs.lemmas.Bool.{false≢true, cond-false, eqb-true, eq-eqb, ne_eqb}
 use Rattle.std.proofs.lemmas.Option.{same_Some}
 use Rattle.core_steps.specs.Nodes.{Fixed}
+use Rattle.core_steps.specs.Points.{Point}
 use Rattle.core_steps.specs.Reads.{View}
-use Rattle.core_steps.specs.Steps.{view_after_refusal}
+use Rattle.core_steps.specs.Held.{inner_held, leaves_held}
+use Rattle.core_steps.specs.Steps.{is_taking, view_after_refusal}
 use Rattle.core_steps.specs.Machine.{Next, Begin, LoadOwn, LoadAgain, TakeNode, ClaimNode, ReadList, ReadPlayer, ReadState, CommitMove, StoreWord, GiveNode, YieldNode, YieldCount}
 use Rattle.core_steps.specs.Calls.{node_taken}
 use Rattle.core_seats.specs.Going.{view_found}
@@ -88,3 +90,22 @@ module _ (F : Fixed) (passes : ℕ) (p new : PassView) (next : Next) (node found
         made ∙ ap (λ (v : View). in_view_with p v (tally_after next found left p.tally)) (refused_is F p.view next node found taken busy)
         ∙ ap (in_view_with p (view_after_refusal node found p.view)) (refused_tally next node found left p.tally taken busy);
   }
+
+-- ---- what a refused take leaves as it was
+
+module _ (F : Fixed) (passes node : ℕ) (p new : PassView) (was : WasRefused F passes node p new) (q : Point) (at : p.view.point ≡ q) where
+  refused_at : new.view.point ≡ q
+  refused_at = ap (λ (r : PassView). r.view.point) was.hand ∙ at
+
+  pub refused_taking : is_taking q ≡ true → is_taking new.view.point ≡ true
+  refused_taking takes = ap is_taking refused_at ∙ takes
+
+  pub refused_inner : (nodes : List ℕ) → nodes ≡ inner_held F q → nodes ≡ inner_held F new.view.point
+  refused_inner nodes are = are ∙ sym (ap (inner_held F) refused_at)
+
+  pub refused_leaves : (leaves : List ℕ) → leaves ≡ leaves_held q p.view.wanted → leaves ≡ leaves_held new.view.point new.view.wanted
+  refused_leaves leaves are = are ∙ sym (λ i. leaves_held (refused_at i) (ap (λ (r : PassView). r.view.wanted) was.hand i))
+
+-- no take was refused in a stage whose refused takes are those of an earlier hand
+pub none_refused_still : (p one two : PassView) → NoTakeWasRefused p one → two.view.refusals ≡ one.view.refusals → two.view.refused ≡ one.view.refused → two.tally ≡ one.tally → NoTakeWasRefused p two
+none_refused_still p one two none count last tally = record { refusals = count ∙ none.refusals; refused = last ∙ none.refused; listed = ap (λ (t : Tally). t.refused) tally ∙ none.listed }
