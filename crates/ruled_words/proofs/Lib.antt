@@ -25,9 +25,11 @@ pub mod BitWalks
 pub mod PlainHands
 pub mod StoresMade
 pub mod GivenBack
+pub mod GivingUp
 pub mod Claims
 pub mod LoadedWords
 pub mod TriedTakes
+pub mod RefusedTakes
 pub mod Visited
 pub mod VisitedNodes
 pub mod StateSteps

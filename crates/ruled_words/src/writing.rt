@@ -59,7 +59,7 @@ impl<'a, A: Action> SharedWords<'a, A> {
         requires again_is { again.now ≡ hand.old.view.again }
         ensures own { IsOwnHand A.meaning self.now hand.new }
         ensures written { IfOk result (λ place. HasWritten effect.now place hand.old hand.new) }
-        ensures served { P.waits ≡ false → OnOk result (NoTakeWasRefused hand.old hand.new) }
+        ensures served { OnOk result (P.waits ≡ false → NoTakeWasRefused hand.old hand.new) }
         ensures at_once { OnErr result (P.waits ≡ false) }
         ensures given_up { OnErr result
             (HasGivenUp (fixed_in A.meaning self.now) (length self.now.rooms) hand.old hand.new) }

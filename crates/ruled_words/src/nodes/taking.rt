@@ -111,7 +111,7 @@ impl<'a, A: Action> SharedWords<'a, A> {
         requires held { AreHeldFor (fixed_in A.meaning self.now) held.now hand.old.view }
         ensures own { IsOwnHand A.meaning self.now hand.new }
         ensures view { OnOk result (hand.new ≡ tried_until hand.old Checking hand.new) }
-        ensures served { P.waits ≡ false → OnOk result (NoTakeWasRefused hand.old hand.new) }
+        ensures served { OnOk result (P.waits ≡ false → NoTakeWasRefused hand.old hand.new) }
         ensures at_once { OnErr result (P.waits ≡ false) }
         ensures given_up { OnErr result
             (HasGivenUp (fixed_in A.meaning self.now) (length self.now.rooms) hand.old hand.new) }

@@ -106,7 +106,7 @@ impl<'a, A: Action> SharedWords<'a, A> {
         ensures own { IsOwnHand A.meaning self.now hand.new }
         ensures view { OnOk result (hand.new ≡ visited_until hand.old
             (visiting (fixed_in A.meaning self.now) hand.old.view (plan_left hand.old.view.point)) hand.new) }
-        ensures served { P.waits ≡ false → OnOk result (NoTakeWasRefused hand.old hand.new) }
+        ensures served { OnOk result (P.waits ≡ false → NoTakeWasRefused hand.old hand.new) }
         ensures at_once { OnErr result (P.waits ≡ false) }
         ensures given_up { OnErr result
             (HasGivenUp (fixed_in A.meaning self.now) (length self.now.rooms) hand.old hand.new) }
@@ -142,7 +142,7 @@ impl<'a, A: Action> SharedWords<'a, A> {
         ensures own { IsOwnHand A.meaning self.now hand.new }
         ensures view { OnOk result (hand.new ≡ visited_until hand.old
             (visiting (fixed_in A.meaning self.now) hand.old.view []) hand.new) }
-        ensures served { P.waits ≡ false → OnOk result (NoTakeWasRefused hand.old hand.new) }
+        ensures served { OnOk result (P.waits ≡ false → NoTakeWasRefused hand.old hand.new) }
         ensures at_once { OnErr result (P.waits ≡ false) }
         ensures given_up { OnErr result
             (HasGivenUp (fixed_in A.meaning self.now) (length self.now.rooms) hand.old hand.new) }
@@ -179,7 +179,7 @@ impl<'a, A: Action> SharedWords<'a, A> {
         ensures own { IsOwnHand A.meaning self.now hand.new }
         ensures view { OnOk result (hand.new ≡ in_view_with hand.old
             (nodes_read (fixed_in A.meaning self.now) hand.old.view hand.new.view) hand.new.tally) }
-        ensures served { P.waits ≡ false → OnOk result (NoTakeWasRefused hand.old hand.new) }
+        ensures served { OnOk result (P.waits ≡ false → NoTakeWasRefused hand.old hand.new) }
         ensures at_once { OnErr result (P.waits ≡ false) }
         ensures given_up { OnErr result
             (HasGivenUp (fixed_in A.meaning self.now) (length self.now.rooms) hand.old hand.new) }

@@ -110,7 +110,7 @@ impl<'a, A: Action> SharedWords<'a, A> {
         ensures own { IsOwnHand A.meaning self.now hand.new }
         ensures tried { OnOk result (HasTried hand.old
             (view_after_claim (fixed_in A.meaning self.now) effect.now node hand.old.view) hand.new) }
-        ensures served { P.waits ≡ false → OnOk result (NoTakeWasRefused hand.old hand.new) }
+        ensures served { OnOk result (P.waits ≡ false → NoTakeWasRefused hand.old hand.new) }
         ensures at_once { OnErr result (P.waits ≡ false) }
         ensures given_up { OnErr result
             (HasGivenUp (fixed_in A.meaning self.now) (length self.now.rooms) hand.old hand.new) }
@@ -138,7 +138,7 @@ impl<'a, A: Action> SharedWords<'a, A> {
         requires held { AreHeldFor (fixed_in A.meaning self.now) held.now hand.old.view }
         ensures own { IsOwnHand A.meaning self.now hand.new }
         ensures tried { OnOk result (HasTried hand.old (view_after_take node hand.old.view) hand.new) }
-        ensures served { P.waits ≡ false → OnOk result (NoTakeWasRefused hand.old hand.new) }
+        ensures served { OnOk result (P.waits ≡ false → NoTakeWasRefused hand.old hand.new) }
         ensures at_once { OnErr result (P.waits ≡ false) }
         ensures given_up { OnErr result
             (HasGivenUp (fixed_in A.meaning self.now) (length self.now.rooms) hand.old hand.new) }
@@ -169,7 +169,7 @@ impl<'a, A: Action> SharedWords<'a, A> {
         ensures own { IsOwnHand A.meaning self.now hand.new }
         ensures tried { OnOk result
             (HasTried hand.old (view_with_claims (fixed_in A.meaning self.now) effect.now hand.old.view) hand.new) }
-        ensures served { P.waits ≡ false → OnOk result (NoTakeWasRefused hand.old hand.new) }
+        ensures served { OnOk result (P.waits ≡ false → NoTakeWasRefused hand.old hand.new) }
         ensures at_once { OnErr result (P.waits ≡ false) }
         ensures given_up { OnErr result
             (HasGivenUp (fixed_in A.meaning self.now) (length self.now.rooms) hand.old hand.new) }
