@@ -1,14 +1,20 @@
 -- What a move leaves of its pass, by what its hand ran.
-use Rattle.std.proofs.Common.{◌≡◌, ℕ, suc, ◌+◌, ◌≤◌, false, if◌then◌else◌, length, sym, ap, ◌∙◌, subst, inl, inr, Option, None, is_some, arith}
+use Rattle.std.proofs.Common.{◌≡◌, ℕ, suc, ◌+◌, ◌≤◌, true, false, if◌then◌else◌, length, refl, sym, ap, ◌∙◌, subst, inl, inr, Option, Some, None, is_some, Result, Ok, Err, arith}
+use Rattle.std.specs.Option.{option_map}
+use Rattle.std.specs.Result.{OnErr, IsOk}
 use Rattle.std.proofs.lemmas.Bool.{cases_Bool, false≢true}
+use Rattle.std.proofs.lemmas.Option.{same_Some}
 use Rattle.atomic_table.specs.Seated.{TableId}
 use Rattle.entity_recs.specs.declared.effect.Entry.{Entry}
 use Rattle.entity_recs.specs.Commands.{Command}
 use Rattle.move_journal.specs.Logs.{JournalView}
 use Rattle.world_tree.specs.Nears.{NearView}
 use Rattle.core_steps.specs.Nodes.{Fixed}
+use Rattle.core_steps.specs.Reads.{Refused}
 use Rattle.core_steps.specs.Steps.{is_taking}
 use Rattle.core_seats.specs.declared.refusals.Refusals.{Refusals}
+use Rattle.core_seats.specs.declared.refusals.Refused as noted
+use Rattle.core_seats.specs.Refusals.{last_of, refused_of}
 use Rattle.core_seats.specs.Ready.{is_resolving}
 use Rattle.ruled_words.specs.Passes.{PassView, IsPassOf}
 use Rattle.ruled_words.specs.Hands.{plain_pass}
@@ -91,3 +97,21 @@ near_room F passes table p log refusals near own kept =
     let records = ap (λ (s : Setting). s.records) own.at_setting in
     let fits = kept.near_fits in
     omega (arith, records, fits)
+
+-- ---- as the code has it
+
+-- a walk that waits isn't given up
+pub waits_on : {T E : Type 0} (r : Result T E) → OnErr r (true ≡ false) → IsOk r
+waits_on (Ok x) err = refl
+waits_on (Err e) err = absurd (false≢true (sym err))
+
+-- the last refused take in plain values is the one in view
+pub some_noted : (r : Refusals) (o : Refused) → last_of r ≡ Some o → is_some r.last ≡ true
+some_noted r o last = by_last r.last last
+  where
+    by_last : (x : Option noted.Refused) → option_map refused_of x ≡ Some o → is_some x ≡ true
+    by_last None is = cc
+    by_last (Some x) is = refl
+
+pub is_noted : (r : Refusals) (o : Refused) (x : noted.Refused) → last_of r ≡ Some o → Some x ≡ r.last → refused_of x ≡ o
+is_noted r o x last is = same_Some (refused_of x) o (ap (option_map refused_of) is ∙ last)
