@@ -1,6 +1,6 @@
 -- A plain hand gives back all that it holds, and its command is no longer in hand.
 use Rattle.std.proofs.Common.{◌≡◌, ◌≤◌, ℕ, ◌+◌, ◌-◌, ◌/◌, ◌%◌, ◌^◌, ◌<◌, Bool, true, false, if◌then◌else◌, List, [], ◌∷◌, length, slice_index_or, drop, min, refl, sym, ap, ◌∙◌, subst, Option, Some, None, Result, Ok, Err, arith}
-use Rattle.std.specs.Result.{OnOk, OnErr, IsErrAnd}
+use Rattle.std.specs.Result.{OnErr}
 use Rattle.std.proofs.lemmas.Bool.{false≢true}
 use Rattle.std.proofs.lemmas.List.{drop_more, drop_all}
 use Rattle.atomic_table.specs.Seated.{TableId}
@@ -311,8 +311,3 @@ given_up_before F passes old now new same gone = record {
 pub on_err : {T E P : Type 0} (r : Result T E) → P → OnErr r P
 on_err (Ok x) p = tt
 on_err (Err e) p = p
-
--- an answer that is an error isn't a value
-pub not_ok : {T E P : Type 0} {Q : E → Type 0} (r : Result T E) → IsErrAnd r Q → OnOk r P
-not_ok (Ok x) err = absurd err
-not_ok (Err e) err = tt

@@ -279,8 +279,11 @@ bits_few (suc n) word =
 leaf_list_few : (F : Fixed) (leaves : ℕ) → length (leaf_list F leaves) ≤ 2 ^ F.tree.depth
 leaf_list_few F leaves =
     let few = bits_few (2 ^ F.tree.depth) leaves in
-    let same = length-map (leaf_node F.tree.depth) (bits_in (2 ^ F.tree.depth) leaves) in
+    let same = length-map (bits_in (2 ^ F.tree.depth) leaves) (leaf_node F.tree.depth) in
     omega (arith, few, same)
+
+pub none_taken : (n m : ℕ) → n ≡ m → 0 + n ≡ m
+none_taken n m same = omega (arith, same)
 
 -- what is known where the leaves of a command are to be taken
 pub record WantsLeaves (F : Fixed) (p : PassView) (leaves : ℕ) : Type 0 where

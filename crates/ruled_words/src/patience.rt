@@ -9,7 +9,7 @@ pub struct GivenUp;
 pub trait Patience {
     ghost use Rattle.std.specs.Prelude.{◌≡◌, ◌<◌, ◌^◌, ◌-◌, Bool, true};
 
-    // Whether a refused take is tried again until it is served.
+    /// Whether a refused take is tried again until it is served.
     ghost waits: { Bool };
 
     /// Whether a take is tried again that was refused, and so many times before.
