@@ -7,9 +7,9 @@ use Rattle.core_steps.specs.Nodes.{Fixed}
 use Rattle.core_steps.specs.Reads.{View}
 use Rattle.core_seats.specs.Going.{view_found}
 use Rattle.entity_recs.specs.Commands.{command_of}
-use Rattle.core_seats.specs.declared.seat.Seat as mirrors
+use Rattle.core_machine.specs.declared.seat.Seat as mirrors
 use Rattle.core_seats.specs.Ready.{is_resolving}
-use Rattle.core_seats.specs.Seats.{view_of, things_room}
+use Rattle.core_machine.specs.Seats.{view_of, things_room}
 use Rattle.ruled_words.specs.Hands.{pass_view}
 use Rattle.ruled_words.specs.Passes.{PassView, effect_kept, next_of_pass, pass_after, IsPassOf, HasGone}
 use Rattle.world_tree.specs.Nears.{NearView}

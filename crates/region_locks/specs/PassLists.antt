@@ -1,7 +1,7 @@
 -- What a pass keeps beside its hand.
 use Rattle.std.specs.Prelude.{◌≡◌, ◌≤◌, ◌+◌}
-use Rattle.core_seats.specs.declared.seat.Seat.{Seat}
-use Rattle.core_seats.specs.Seats.{view_of, things_room}
+use Rattle.core_machine.specs.declared.seat.Seat.{Seat}
+use Rattle.core_machine.specs.Seats.{view_of, things_room}
 use Rattle.world_tree.specs.Nears.{NearView}
 use Rattle.ruled_words.specs.Passes.{PassView}
 

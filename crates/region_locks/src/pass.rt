@@ -1,5 +1,5 @@
 ghost use Rattle.std.specs.Prelude.{◌≡◌, ◌≤◌, ◌+◌, false, None};
-ghost use Rattle.core_seats.specs.Seats.{view_of, things_room};
+ghost use Rattle.core_machine.specs.Seats.{view_of, things_room};
 ghost use Rattle.ruled_words.specs.Passes.{sight_of};
 ghost use Rattle.ruled_words.specs.Sights.{no_tally};
 ghost use Rattle.ruled_words.specs.NewPasses.{new_pass};

@@ -4,7 +4,7 @@ ghost use Rattle.core_steps.specs.declared.sizes.TheConstants.{MOST_SEATS};
 ghost use Rattle.ruled_words.specs.Rule.{first_sight};
 ghost use Rattle.ruled_words.specs.Sights.{no_tally};
 ghost use Rattle.core_steps.specs.Nodes.{inner_nodes};
-ghost use Rattle.core_seats.specs.Seats.{IsFresh};
+ghost use Rattle.core_machine.specs.Seats.{IsFresh};
 ghost use Rattle.ruled_words.specs.Passes.{fixed_in, setting_of, sight_of, IsOwn};
 ghost use Rattle.ruled_words.specs.Starts.{rules_of};
 ghost use Rattle.world_tree.specs.Live.{live_in};

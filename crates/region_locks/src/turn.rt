@@ -9,8 +9,8 @@ ghost use Rattle.core_steps.specs.Reads.{View};
 ghost use Rattle.core_steps.specs.Machine.{next_at, beginning};
 ghost use Rattle.core_seats.specs.Nexts.{next_point};
 ghost use Rattle.core_seats.specs.Ready as ready;
-ghost use Rattle.core_seats.specs.Points.{store_of};
-ghost use Rattle.core_seats.specs.Seats.{view_of, given_of};
+ghost use Rattle.core_machine.specs.Points.{store_of};
+ghost use Rattle.core_machine.specs.Seats.{view_of, given_of};
 ghost use Rattle.ruled_words.specs.Passes.{fixed_in, IsOwn};
 ghost use Rattle.region_locks.specs.Turns.{turn_for, turn_of, has_command_in_hand};
 

@@ -2,7 +2,7 @@ ghost use Rattle.std.specs.Prelude.{◌≡◌, ◌≤◌, length, false, None};
 ghost use Rattle.core_seats.specs.Going.{view_found};
 ghost use Rattle.core_seats.specs.Nexts.{next_with, the_next};
 ghost use Rattle.core_seats.specs.Ready as ready;
-ghost use Rattle.core_seats.specs.Seats.{view_of, given_of, things_room};
+ghost use Rattle.core_machine.specs.Seats.{view_of, given_of, things_room};
 ghost use Rattle.core_seats.specs.Shown.{fixed_of};
 ghost use Rattle.ruled_words.specs.Passes.{effect_kept};
 ghost use Rattle.region_locks.specs.Following.{CanFollow};

@@ -1,5 +1,5 @@
 ghost use Rattle.std.specs.Prelude.{◌≡◌};
-ghost use Rattle.core_seats.specs.Seats.{view_of};
+ghost use Rattle.core_machine.specs.Seats.{view_of};
 ghost use Rattle.region_locks.specs.Pursuits as pursuits;
 
 use crate::pass::Pass;

@@ -1,8 +1,8 @@
 ghost use Rattle.std.specs.Prelude.{◌≡◌, map};
 ghost use Rattle.core_steps.specs.Points.{stores_owed};
 ghost use Rattle.core_steps.specs.Cells.{cell_index};
-ghost use Rattle.core_seats.specs.Points.{cell_in, store_of};
-ghost use Rattle.core_seats.specs.Seats.{view_of, hand_of};
+ghost use Rattle.core_machine.specs.Points.{cell_in, store_of};
+ghost use Rattle.core_machine.specs.Seats.{view_of, hand_of};
 ghost use Rattle.region_locks.specs.NextCalls as passes;
 
 use core_seats::{Cell, Point, Seat, Store};

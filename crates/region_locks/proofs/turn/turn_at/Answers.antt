@@ -1,7 +1,7 @@
 use Rattle.std.proofs.Common.{ap, map, sym}
 use Rattle.core_steps.specs.Points as core_points
-use Rattle.core_seats.specs.Points.{point_of, store_of}
-use Rattle.core_seats.specs.Seats.{view_of, given_of}
+use Rattle.core_machine.specs.Points.{point_of, store_of}
+use Rattle.core_machine.specs.Seats.{view_of, given_of}
 use Rattle.region_locks.proofs.Turns.{turn_here}
 use Rattle.region_locks.proofs.turn.turn_at.Goals as goal
 

@@ -1,8 +1,8 @@
 use Rattle.std.proofs.Common.{ap, ◌∙◌, refl, length}
 use Rattle.core_steps.specs.Points as core_points
-use Rattle.core_seats.specs.Seats.{view_of}
+use Rattle.core_machine.specs.Seats.{view_of}
 use Rattle.core_seats.specs.Shown.{fixed_of}
-use Rattle.core_seats.proofs.Rooms.{before_is_record, loaded_is_record}
+use Rattle.core_seats.proofs.SoundRecords.{before_is_record, loaded_is_record}
 use Rattle.ruled_words.specs.Passes.{PassView, fixed_in}
 use Rattle.region_locks.proofs.Quitting.{pass_is_ready}
 use Rattle.region_locks.proofs.table.NodeTable.resolved_turn.Goals as goal
