@@ -5,15 +5,3 @@ pub mod Stepping
 pub mod NewPasses
 pub mod Commits
 pub mod Storing
-pub mod Turns
-pub mod Pursuing
-pub mod Followed
-pub mod Onward
-pub mod GivingUp
-pub mod Relinking
-pub mod EndedPasses
-pub mod EndedLogs
-pub mod RunWorlds
-pub mod Runs
-pub mod PassRuns
-pub mod Running

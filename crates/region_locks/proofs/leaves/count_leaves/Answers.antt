@@ -1,6 +1,6 @@
 use Rattle.std.proofs.Common.{arith}
 use Rattle.areanode.specs.Depths.{sizes_of_depth}
-use Rattle.region_locks.proofs.mirror.leaves.count_leaves.Goals as goal
+use Rattle.region_locks.proofs.leaves.count_leaves.Goals as goal
 
 pub returns-clause-value : goal.returns-clause-value
 returns-clause-value c =

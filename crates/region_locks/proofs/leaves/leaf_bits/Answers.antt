@@ -4,7 +4,7 @@ use Rattle.areanode.specs.Trees.{leaf_node}
 use Rattle.areanode.specs.declared.sizes.TheConstants.{MOST_LEAVES}
 use Rattle.areanode.proofs.Words.{word_of-below, word_none, word_next}
 use Rattle.core_steps.specs.Nodes.{has}
-use Rattle.region_locks.proofs.mirror.leaves.leaf_bits.Goals as goal
+use Rattle.region_locks.proofs.leaves.leaf_bits.Goals as goal
 
 pub with_top_bit-word-requires-clause-below : goal.with_top_bit-word-requires-clause-below
 with_top_bit-word-requires-clause-below c = subst (λ (n : ℕ). n < 2 ^ c.loop-leaf.leaf) (sym c.loop-leaf.invariant) (word_of-below c.loop-leaf.leaf _)

@@ -44,6 +44,6 @@ impl<A> Pass<A> {
         ensures { let depth = self.now.setting.depth in
             result ≡ word_of (leaves_in depth) (λ leaf. has self.now.view.wanted (leaf_node depth leaf)) }
     {
-        leaf_bits(self.hand.setting().depth, self.mirror.wanted.as_slice())
+        leaf_bits(self.hand.setting().depth, self.seat.wanted.as_slice())
     }
 }

@@ -7,7 +7,8 @@ ghost use Rattle.core_seats.specs.Shown.{fixed_of};
 ghost use Rattle.ruled_words.specs.Passes.{effect_kept};
 ghost use Rattle.region_locks.specs.Following.{CanFollow};
 
-use core_seats::{Point, Rules, Seat};
+use core_machine::{Point, Seat};
+use core_seats::Rules;
 use entity_recs::{Action, Effect};
 
 /// Whether all is read and no write node is taken.
@@ -31,23 +32,23 @@ fn let_go(effect: &mut Option<Effect>)
 /// the view, and let go where the command is given up.
 pub(crate) fn follow<A: Action>(
     rules: &Rules<A>,
-    mirror: &mut Seat,
+    seat: &mut Seat,
     effect: &mut Option<Effect>,
     found: u64,
 )
-    requires ready { CanFollow (fixed_of A.meaning rules.now) (view_of mirror.old)
-        (given_of mirror.old) mirror.old.quits effect.old found }
-    requires things { length (fixed_of A.meaning rules.now).start.ids ≤ things_room mirror.old }
-    ensures view { let F = fixed_of A.meaning rules.now in view_of mirror.new
-        ≡ view_found F (view_of mirror.old) (the_next (next_with F (view_of mirror.old) (given_of mirror.old)
-        mirror.old.quits effect.old)) found }
-    ensures given { mirror.new.given ≡ None }
-    ensures quits { mirror.new.quits ≡ false }
-    ensures effect { effect.new ≡ effect_kept (view_of mirror.new) effect.old }
-    ensures things { things_room mirror.new ≡ things_room mirror.old }
+    requires ready { CanFollow (fixed_of A.meaning rules.now) (view_of seat.old)
+        (given_of seat.old) seat.old.quits effect.old found }
+    requires things { length (fixed_of A.meaning rules.now).start.ids ≤ things_room seat.old }
+    ensures view { let F = fixed_of A.meaning rules.now in view_of seat.new
+        ≡ view_found F (view_of seat.old) (the_next (next_with F (view_of seat.old) (given_of seat.old)
+        seat.old.quits effect.old)) found }
+    ensures given { seat.new.given ≡ None }
+    ensures quits { seat.new.quits ≡ false }
+    ensures effect { effect.new ≡ effect_kept (view_of seat.new) effect.old }
+    ensures things { things_room seat.new ≡ things_room seat.old }
 {
-    mirror.go(rules, effect, found);
-    if !is_resolving(mirror) {
+    seat.go(rules, effect, found);
+    if !is_resolving(seat) {
         let_go(effect);
     }
 }

@@ -5,7 +5,8 @@ ghost use Rattle.core_machine.specs.Points.{cell_in, store_of};
 ghost use Rattle.core_machine.specs.Seats.{view_of, hand_of};
 ghost use Rattle.region_locks.specs.NextCalls as passes;
 
-use core_seats::{Cell, Point, Seat, Store};
+use crate::pass::Pass;
+use core_machine::{Cell, Point, Seat, Store};
 use core_steps::{FIRST_STATE_WORD, record_word};
 
 /// The node at which the own bit is cleared or set by the first of these stores, and 0 where it is none of the bit.
@@ -26,6 +27,13 @@ pub(crate) fn bit_owed(seat: &Seat) -> u8
         Point::Storing => bit_of_first(seat.queues.stores.as_slice()),
         _ => 0,
     }
+}
+
+/// Whether the first of these stores clears the own bit.
+fn clears_bit(stores: &[Store]) -> bool
+    ensures { result ≡ passes.clears_first (map store_of stores.now) }
+{
+    matches!(stores, [Store::Clear(_), ..])
 }
 
 /// The index of a word of a record in the table.
@@ -61,11 +69,23 @@ pub(crate) fn put_owed(seat: &Seat) -> (usize, u64)
     }
 }
 
+impl<A> Pass<A> {
+    /// Whether the store that is made next, if one is, clears the own bit: it is `unlink` that is called.
+    pub fn unlinks_next(&self) -> bool
+        ensures { result ≡ passes.clears_first (stores_owed self.now.view.point) }
+    {
+        match self.seat.point {
+            Point::Storing => clears_bit(self.seat.queues.stores.as_slice()),
+            _ => false,
+        }
+    }
+}
+
 /// The slot and the player's own number of the command in hand.
-pub(crate) fn slot_and_seq(mirror: &Seat) -> (u8, u32)
-    ensures { result ≡ ((hand_of mirror.now.cmd).slot, (hand_of mirror.now.cmd).seq) }
+pub(crate) fn slot_and_seq(seat: &Seat) -> (u8, u32)
+    ensures { result ≡ ((hand_of seat.now.cmd).slot, (hand_of seat.now.cmd).seq) }
 {
-    match &mirror.cmd {
+    match &seat.cmd {
         Some(c) => (c.slot, c.seq),
         None => (0, 0),
     }
