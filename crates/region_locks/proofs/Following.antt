@@ -9,15 +9,25 @@ use Rattle.core_seats.specs.Going.{view_found}
 use Rattle.entity_recs.specs.Commands.{command_of}
 use Rattle.core_machine.specs.declared.seat.Seat as seats
 use Rattle.core_seats.specs.Ready.{is_resolving}
-use Rattle.core_machine.specs.Seats.{view_of, things_room}
-use Rattle.region_locks.specs.PassLists.{pass_view}
-use Rattle.ruled_words.specs.Passes.{PassView, effect_kept, next_of_pass, pass_after, IsPassOf, HasGone}
+use Rattle.core_machine.specs.Seats.{view_of, given_of, things_room}
+use Rattle.ruled_words.specs.Passes.{PassView, TableView, effect_kept, next_of_pass, pass_after, IsPassOf, HasGone}
+use Rattle.ruled_words.specs.Hands.{pass_beside}
 use Rattle.world_tree.specs.Nears.{NearView}
 use Rattle.ruled_words.specs.declared.setting.Setting.{Setting}
 use Rattle.region_locks.specs.Following.{CanFollow}
-use Rattle.region_locks.specs.PassLists.{HasItsLists}
+use Rattle.region_locks.specs.PassLists.{HasItsLists, pass_view}
 use Rattle.ruled_words.proofs.Owns.{own_after}
 use Rattle.core_seats.specs.Nexts.{the_next}
+
+-- the hand's pass is the pass
+pub beside_is : (p hand : PassView) (seat : seats.Seat) (effect : Option Effect) (near : NearView) → pass_view hand seat effect ≡ p → HasItsLists hand seat near
+    → pass_beside hand (given_of seat) seat.quits effect ≡ p
+beside_is p hand seat effect near is lists =
+    ap (λ (v : View). record (pass_beside hand (given_of seat) seat.quits effect) { view = v }) (sym lists.same_view) ∙ is
+
+-- what holds of a pass of a table holds of its hand's pass
+pub of_hand : {A : Type 0} (P : TableView A → PassView → Type 0) (t u : TableView A) (p q : PassView) → t ≡ u → q ≡ p → P u p → P t q
+of_hand P t u p q same is here = subst (λ (v : TableView _). P v q) (sym same) (subst (P u) (sym is) here)
 
 -- the view after what comes next of a pass
 abbrev view_next : Fixed → PassView → ℕ → View

@@ -2,6 +2,6 @@
 pub mod Following
 pub mod Quitting
 pub mod Stepping
-pub mod NewPasses
+pub mod NewSeats
 pub mod Commits
 pub mod Storing
