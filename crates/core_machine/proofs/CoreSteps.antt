@@ -23,7 +23,7 @@ use Rattle.core_steps.proofs.TableWords.{NextIsIn, next_is_in, steps_have_their_
 use Rattle.core_steps.proofs.TreeNodes.{each_tree_fits}
 use Rattle.core_steps.proofs.Logs.{logs_grow_by_commits}
 use Rattle.core_machine.specs.declared.words.Words.{Words}
-use Rattle.core_seats.specs.declared.seat.Seat.{Seat}
+use Rattle.core_machine.specs.declared.seat.Seat.{Seat}
 use Rattle.core_machine.specs.Tables.{words_in}
 use Rattle.core_seats.specs.Shown.{RulesView}
 use Rattle.core_seats.specs.Sound.{IsSound}

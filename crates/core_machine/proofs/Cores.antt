@@ -24,9 +24,9 @@ use Rattle.core_steps.proofs.Nexts.{next_exists}
 use Rattle.core_steps.proofs.Reached.{stands_called}
 use Rattle.core_steps.proofs.Kept.{other_view}
 use Rattle.core_machine.specs.declared.words.Words.{Words}
-use Rattle.core_seats.specs.declared.seat.Seat.{Seat}
+use Rattle.core_machine.specs.declared.seat.Seat.{Seat}
 use Rattle.core_machine.specs.Tables.{words_in}
-use Rattle.core_seats.specs.Seats.{view_of, given_of}
+use Rattle.core_machine.specs.Seats.{view_of, given_of}
 use Rattle.core_seats.specs.Shown.{RulesView}
 use Rattle.core_seats.specs.Going.{view_found}
 use Rattle.core_seats.specs.Nexts.{next_with}

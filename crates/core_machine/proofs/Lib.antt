@@ -1,4 +1,10 @@
 -- Lemmas on the core in code.
+pub mod Logs
+pub mod PointCases
+pub mod PointSteps
+pub mod ReadPlayers
+pub mod Rooms
+pub mod SoundViews
 pub mod Bits
 pub mod Lefts
 pub mod Tables

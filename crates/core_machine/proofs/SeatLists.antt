@@ -3,8 +3,8 @@ use Rattle.std.proofs.Common.{◌≡◌, ℕ, ◌<◌, ◌≤◌, List, length, 
 use Rattle.std.proofs.lemmas.List.Elements.{All-get_or, All-set}
 use Rattle.entity_recs.specs.declared.limits.TheConstants.{IDS}
 use Rattle.core_steps.specs.Nodes.{Fixed}
-use Rattle.core_seats.specs.declared.seat.Seat.{Seat}
-use Rattle.core_seats.specs.Seats.{things_room}
+use Rattle.core_machine.specs.declared.seat.Seat.{Seat}
+use Rattle.core_machine.specs.Seats.{things_room}
 use Rattle.core_seats.proofs.NearLists.{few_ids}
 use Rattle.core_machine.specs.Cores.{CoreView, IsCore}
 use Rattle.core_machine.specs.ListRooms.{HasThingsRoom}

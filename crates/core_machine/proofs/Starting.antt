@@ -15,9 +15,9 @@ use Rattle.core_steps.specs.Stands.{IsLawful, start_words, start_core}
 use Rattle.core_steps.specs.Calls.{StandsSomehow, with_seats, start_machine}
 use Rattle.core_steps.proofs.Reached.{machine_start_stands}
 use Rattle.core_machine.specs.declared.words.Words.{Words}
-use Rattle.core_seats.specs.declared.seat.Seat.{Seat}
+use Rattle.core_machine.specs.declared.seat.Seat.{Seat}
 use Rattle.core_machine.specs.Tables.{words_in}
-use Rattle.core_seats.specs.Seats.{IsFresh}
+use Rattle.core_machine.specs.Seats.{IsFresh}
 use Rattle.core_seats.specs.Shown.{RulesView, IsRuled}
 use Rattle.core_machine.specs.Cores.{SeatView, HasRooms, IsCore, seat_of, no_seat, machine_of, fresh_seat, start_seats}
 use Rattle.core_steps.proofs.Puts.{put_same, put_other}

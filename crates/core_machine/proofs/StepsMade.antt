@@ -16,14 +16,14 @@ use Rattle.core_steps.specs.Reads.{View, effect_loaded}
 use Rattle.core_steps.specs.Steps.{first_yield}
 use Rattle.core_steps.specs.Machine.{Next, next_at, quitting, step_of, index_of, kind_of, word_of_next}
 use Rattle.core_steps.proofs.Storing.{storing_busy}
-use Rattle.core_seats.specs.declared.seat.Seat.{Seat}
+use Rattle.core_machine.specs.declared.seat.Seat.{Seat}
 use Rattle.core_machine.specs.Tables.{with_word_at}
-use Rattle.core_seats.specs.Seats.{view_of, given_of}
+use Rattle.core_machine.specs.Seats.{view_of, given_of}
 use Rattle.core_seats.specs.Going.{view_found, word_left}
 use Rattle.core_seats.specs.Nexts.{next_point, next_with, the_next}
 use Rattle.core_seats.specs.Sound.{IsSound}
 use Rattle.core_seats.specs.Ready.{is_resolving, effect_due}
-use Rattle.core_seats.proofs.Rooms.{command_at, wanted_in, wanted_few}
+use Rattle.core_machine.proofs.Rooms.{command_at, wanted_in, wanted_few}
 use Rattle.core_machine.specs.Cores.{seat_of}
 use Rattle.core_machine.specs.WordsLeft.{IsNodeWord, MayLeave, word_by_kind}
 use Rattle.core_machine.proofs.Lefts.{the_next_is_by_kind}

@@ -10,9 +10,9 @@ use Rattle.core_steps.specs.Stands.{IsLawful, start_words}
 use Rattle.core_steps.specs.Machine.{Machine, Next, next_of, next_step_of}
 use Rattle.core_steps.specs.Calls.{StandsSomehow, IsWaiting, node_taken}
 use Rattle.core_machine.specs.declared.words.Words.{Words}
-use Rattle.core_seats.specs.declared.seat.Seat.{Seat}
+use Rattle.core_machine.specs.declared.seat.Seat.{Seat}
 use Rattle.core_machine.specs.Tables.{words_in}
-use Rattle.core_seats.specs.Seats.{view_of, given_of}
+use Rattle.core_machine.specs.Seats.{view_of, given_of}
 use Rattle.core_seats.specs.Shown.{RulesView, IsRuled}
 
 -- a seat of the core: its view, the command that was given and isn't begun, and whether it is to give up

@@ -1,8 +1,8 @@
 -- The room in the lists of a core's seats.
 use Rattle.std.specs.Prelude.{◌≤◌, List, All}
 use Rattle.entity_recs.specs.declared.limits.TheConstants.{IDS}
-use Rattle.core_seats.specs.declared.seat.Seat.{Seat}
-use Rattle.core_seats.specs.Seats.{things_room}
+use Rattle.core_machine.specs.declared.seat.Seat.{Seat}
+use Rattle.core_machine.specs.Seats.{things_room}
 use Rattle.core_steps.specs.Nodes.{Fixed}
 use Rattle.world_tree.specs.Nears.{NearView}
 use Rattle.core_machine.specs.Cores.{CoreView, IsCore}

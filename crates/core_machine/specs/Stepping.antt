@@ -11,9 +11,9 @@ use Rattle.core_steps.specs.Reads.{View}
 use Rattle.core_steps.specs.Steps.{first_yield}
 use Rattle.core_steps.specs.Machine.{Next, next_at, quitting, step_of, index_of, kind_of, word_of_next}
 use Rattle.core_machine.specs.declared.words.Words as declared
-use Rattle.core_seats.specs.declared.seat.Seat.{Seat}
+use Rattle.core_machine.specs.declared.seat.Seat.{Seat}
 use Rattle.core_machine.specs.Tables.{with_word_at}
-use Rattle.core_seats.specs.Seats.{view_of}
+use Rattle.core_machine.specs.Seats.{view_of}
 use Rattle.core_seats.specs.Going.{view_found, word_left}
 use Rattle.core_seats.specs.Sound.{IsSound}
 use Rattle.core_seats.specs.Ready.{IsReady, effect_due}

@@ -3,10 +3,10 @@ use Rattle.std.specs.Prelude.{ℕ, ◌-◌, ◌/◌, ◌%◌, ◌<◌, ◌==◌,
 use Rattle.core_steps.specs.declared.sizes.TheConstants.{TABLE_NODES, TABLE_STATES}
 use Rattle.core_steps.specs.Cells as cells
 use Rattle.core_machine.specs.declared.words.Words.{Words}
-use Rattle.core_seats.specs.declared.point.Cell.{Cell}
-use Rattle.core_seats.specs.declared.point.Cell.TheVariants.{Body, State}
-use Rattle.core_seats.specs.declared.point.Store.{Store}
-use Rattle.core_seats.specs.declared.point.Store.TheVariants.{Clear, Put, Link}
+use Rattle.core_machine.specs.declared.point.Cell.{Cell}
+use Rattle.core_machine.specs.declared.point.Cell.TheVariants.{Body, State}
+use Rattle.core_machine.specs.declared.point.Store.{Store}
+use Rattle.core_machine.specs.declared.point.Store.TheVariants.{Clear, Put, Link}
 
 -- the first n numbers from a list, and the others from a function
 abbrev pub within : ℕ → List ℕ → (ℕ → ℕ) → ℕ → ℕ

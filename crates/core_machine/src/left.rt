@@ -3,13 +3,15 @@ ghost use Rattle.entity_recs.specs.Actions.{IsCommand};
 ghost use Rattle.core_steps.specs.Cells.{with_bit, without_bit};
 ghost use Rattle.core_steps.specs.Points.{stage_of, is_storing, stores_owed};
 ghost use Rattle.core_seats.specs.Going as going;
-ghost use Rattle.core_seats.specs.Points.{store_of};
-ghost use Rattle.core_seats.specs.Seats.{view_of};
+ghost use Rattle.core_machine.specs.Points.{store_of};
+ghost use Rattle.core_machine.specs.Seats.{view_of};
 ghost use Rattle.core_seats.specs.Shown.{fixed_of};
 ghost use Rattle.core_machine.specs.WordsLeft as left;
 ghost use Rattle.core_machine.specs.WordsLeft.{MayTake, MayLeave, takes_to_write, first_stored, word_by_kind};
 
-use core_seats::{Point, Rules, Seat, Store};
+use crate::point::{Point, Store};
+use crate::seat::Seat;
+use core_seats::Rules;
 use core_steps::{FIRST_NODE_WORD, Step, StepKind};
 use entity_recs::Action;
 

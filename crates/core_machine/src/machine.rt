@@ -2,10 +2,11 @@ ghost use Rattle.std.specs.Prelude.{◌≡◌, ◌<◌, ◌≤◌, ◌++◌, len
 ghost use Rattle.core_machine.specs.ListRooms.{HasThingsRoom};
 ghost use Rattle.core_machine.specs.Cores.{seat_of, fresh_seat, start_seats};
 
+use crate::seat::Seat;
 use crate::stepping::make_step;
 use crate::words::Words;
 use areanode::Tree;
-use core_seats::{Rules, Seat};
+use core_seats::Rules;
 use core_steps::{MOST_SEATS, Step};
 use entity_recs::{Action, Cmd, Entry, IDS, Rec};
 use std::alloc::{AllocError, Global};

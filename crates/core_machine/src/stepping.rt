@@ -4,15 +4,16 @@ ghost use Rattle.core_steps.specs.Machine.{step_of};
 ghost use Rattle.core_machine.specs.Cores.{seat_of};
 ghost use Rattle.core_seats.specs.Nexts.{next_with, the_next};
 ghost use Rattle.core_seats.specs.Ready.{IsReady};
-ghost use Rattle.core_seats.specs.Seats.{view_of, given_of, things_room};
+ghost use Rattle.core_machine.specs.Seats.{view_of, given_of, things_room};
 ghost use Rattle.core_seats.specs.Shown.{fixed_of};
 ghost use Rattle.core_machine.specs.Stepping as stepping;
 ghost use Rattle.core_machine.specs.Stepping.{MayStep, IsOnWord, IsStepped, IsOther, IsMade};
 ghost use Rattle.core_machine.specs.Tables.{words_in};
 
 use crate::left::word_left;
+use crate::seat::Seat;
 use crate::words::Words;
-use core_seats::{Rules, Seat};
+use core_seats::Rules;
 use core_steps::{Step, StepKind};
 use entity_recs::{Action, Effect};
 use world_tree::NearList;

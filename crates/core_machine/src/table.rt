@@ -1,5 +1,5 @@
+use crate::point::Cell;
 use crate::words::Words;
-use core_seats::Cell;
 use core_steps::{FIRST_LIST_WORD, FIRST_RECORD_WORD, FIRST_STATE_WORD, TABLE_WORDS};
 
 /// Where each part of the table begins.

@@ -2,11 +2,11 @@ ghost use Rattle.std.specs.Prelude.{◌≡◌, ◌<◌, length, slice_set};
 ghost use Rattle.core_steps.specs.Cells as cells;
 ghost use Rattle.core_steps.specs.Cells.{put, word_in, with_word, cell_of, with_bit, without_bit};
 ghost use Rattle.core_steps.specs.Steps.{words_after_store};
-ghost use Rattle.core_seats.specs.Points.{cell_in, store_of};
+ghost use Rattle.core_machine.specs.Points.{cell_in, store_of};
 ghost use Rattle.core_machine.specs.Tables.{words_in, IsCellOf, IsStoreOf};
 
 use crate::left::{list_with, list_without};
-use core_seats::{Cell, Store};
+use crate::point::{Cell, Store};
 use core_steps::{PlayerWords, TABLE_NODES, TABLE_STATES};
 use entity_recs::SLOTS;
 

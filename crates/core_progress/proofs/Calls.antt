@@ -21,7 +21,7 @@ use Rattle.core_steps.proofs.Nexts.{next_exists}
 use Rattle.core_steps.proofs.OneView.{steps_change_one_view}
 use Rattle.core_steps.proofs.Reached.{stands_called}
 use Rattle.core_steps.proofs.SameSeats.{SeatPart, same_seats}
-use Rattle.core_seats.specs.StepsLeft.{is_served}
+use Rattle.core_progress.specs.StepsLeft.{is_served}
 use Rattle.core_progress.specs.Progress.{serves_next, served_by, served_steps, commands_given, view_steps, given_steps, steps_of_command, seat_steps, steps_of_all}
 use Rattle.core_progress.specs.Laws.{ServedStepsAreBounded}
 use Rattle.core_progress.proofs.Lowering.{lowers, keeps}

@@ -1,4 +1,6 @@
 -- Lemmas on the progress of moves.
+pub mod StepsLeft
+pub mod SoundCounts
 pub mod Serving
 pub mod Effects
 pub mod Lowering

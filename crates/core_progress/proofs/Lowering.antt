@@ -24,9 +24,9 @@ use Rattle.core_steps.proofs.Puts.{put_same}
 use Rattle.core_seats.specs.Going.{view_found}
 use Rattle.core_seats.specs.Nexts.{next_point, next_with, the_next}
 use Rattle.core_seats.specs.Ready.{is_resolving}
-use Rattle.core_seats.specs.StepsLeft.{steps_left, left_at, is_served, IsCounting}
-use Rattle.core_seats.proofs.StepsLeft.{served_steps_leave_fewer}
-use Rattle.core_seats.proofs.SoundCounts.{sound_views_count}
+use Rattle.core_progress.specs.StepsLeft.{steps_left, left_at, is_served, IsCounting}
+use Rattle.core_progress.proofs.StepsLeft.{served_steps_leave_fewer}
+use Rattle.core_progress.proofs.SoundCounts.{sound_views_count}
 use Rattle.core_seats.proofs.Sounding.{sound_here}
 use Rattle.core_seats.proofs.Changing.{view_here}
 use Rattle.core_progress.specs.Progress.{longest_effect, effect_or_longest, view_steps, given_steps, steps_of_command, seat_steps}

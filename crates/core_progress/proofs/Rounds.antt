@@ -20,7 +20,7 @@ use Rattle.core_steps.specs.Calls.{Call, Give, Go, GiveUp, gone_on, with_given, 
 use Rattle.core_steps.proofs.Puts.{put_other}
 use Rattle.core_steps.proofs.OneView.{steps_change_one_view}
 use Rattle.core_steps.proofs.Reached.{stands_called}
-use Rattle.core_seats.specs.StepsLeft.{is_served, left_at}
+use Rattle.core_progress.specs.StepsLeft.{is_served, left_at}
 use Rattle.core_progress.specs.Progress.{serves_next, can_step, served_by, served_steps, commands_given, effect_or_longest, given_steps, steps_of_command, seat_steps, steps_of_all, lets_go, IsRound, AreRounds, after_rounds, commands_in, any_in_hand, busy_rounds}
 use Rattle.core_progress.specs.Laws.{BusyRoundsAreFew, RoundsEndAllCommands}
 use Rattle.core_progress.proofs.Serving.{some_seat_can_step}

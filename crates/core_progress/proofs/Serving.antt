@@ -13,7 +13,7 @@ use Rattle.core_steps.specs.Machine.{Machine, Next, Begin, LoadOwn, LoadAgain, T
 use Rattle.core_steps.specs.Calls.{has_command, node_taken, IsWaiting}
 use Rattle.core_steps.proofs.Nexts.{next_exists, some_seat_is_free, each_take_comes_later}
 use Rattle.core_steps.proofs.Waiting.{holder_below, holder_is_below, cases_Option}
-use Rattle.core_seats.specs.StepsLeft.{is_served}
+use Rattle.core_progress.specs.StepsLeft.{is_served}
 use Rattle.core_progress.specs.Progress.{serves_next, can_step}
 use Rattle.core_progress.specs.Laws.{SeatsStepOrWait, SomeSeatCanStep}
 

@@ -12,7 +12,7 @@ use Rattle.core_steps.specs.Reads.{View}
 use Rattle.core_steps.specs.Machine.{Machine, Next, next_of, word_of_next}
 use Rattle.core_steps.specs.Calls.{Call, Give, Go, GiveUp, after_call, after_calls, has_command}
 use Rattle.core_steps.specs.Calls.{MayBeCalled, MayAllBeCalled, IsWaiting}
-use Rattle.core_seats.specs.StepsLeft.{left_at, steps_left, is_served}
+use Rattle.core_progress.specs.StepsLeft.{left_at, steps_left, is_served}
 
 -- ---- steps that are served
 

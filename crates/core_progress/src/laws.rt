@@ -1,7 +1,21 @@
+ghost use Rattle.core_progress.specs.StepsLeft.{ServedStepsLeaveFewer, SoundViewsCount};
 ghost use Rattle.core_progress.specs.Laws.{ServedStepsAreBounded, CommandsTakeFewSteps, SeatsStepOrWait};
 ghost use Rattle.core_progress.specs.Laws.{SomeSeatCanStep, RoundsEndAllCommands, FairSchedulesEndAllCommands};
 ghost use Rattle.core_progress.specs.Laws.{TurnsAreRounds, TurnsEndAllCommands, CommandsInHandAreSeen};
 ghost use Rattle.core_progress.specs.Laws.{BusyRoundsAreFew, EndedCommandsAreLogged};
+
+/// A sound view meets the condition of [`served_steps_leave_fewer`], where the effect in view, if there is one, is the
+/// one that is kept.
+pub fn sound_views_count()
+    ensures { SoundViewsCount }
+{}
+
+/// A step of a seat that isn't to give up and has its command in view, and that is no refused take, leaves it fewer
+/// steps. Each view of a valid machine meets the condition, by `standing_views_are_sound` of `core_seats` and
+/// [`sound_views_count`], so a seat whose takes are served comes to the end of its command.
+pub fn served_steps_leave_fewer()
+    ensures { ServedStepsLeaveFewer }
+{}
 
 /// Whatever calls are made of a machine that stands, in whatever order: the steps that are served, and those that are
 /// left after them, are at most those that were left before, and for each command that is given 24,471 and two for each

@@ -1,5 +1,4 @@
--- Lemmas on the seats of the core in code.
-pub mod Logs
+-- Lemmas on the rules of an action's world, and on the steps of a seat.
 pub mod Ranges
 pub mod Fixing
 pub mod ReadLists
@@ -11,10 +10,6 @@ pub mod SlotLists
 pub mod ThingPlaces
 pub mod NextThings
 pub mod Changing
-pub mod SoundViews
-pub mod StepsLeft
 pub mod Sounding
-pub mod SoundCounts
-pub mod PointCases
-pub mod Rooms
+pub mod SoundRecords
 pub mod Steps

@@ -9,8 +9,8 @@ use Rattle.std.proofs.Math.ListN.{get_or-map}
 use Rattle.std.proofs.lemmas.List.{length-map, map-append, take_more, get_or-set_other}
 use Rattle.std.proofs.Math.ListN.{set}
 use Rattle.world_tree.specs.Nears.{NearView}
-use Rattle.core_seats.specs.Seats.{player_read_of}
-use Rattle.core_seats.specs.declared.seat.PlayerRead.{PlayerRead as PlayerParts}
+use Rattle.core_seats.specs.PlayerReads.{player_read_of}
+use Rattle.core_seats.specs.declared.reads.PlayerRead.{PlayerRead as PlayerParts}
 use Rattle.std.proofs.lemmas.List.Elements.{All-get_or, filter_map-append}
 use Rattle.std.proofs.lemmas.List.Kept.{AllPairs-from_increasing}
 use Rattle.arena_geo.specs.Bounds.{Bounds}

@@ -1,6 +1,5 @@
--- What was read, in a list.
-use Rattle.std.proofs.Common.{◌≡◌, ℕ, ◌+◌, ◌*◌, ◌<◌, ◌≤◌, ◌==◌, Bool, true, false, List, [], ◌∷◌, ◌++◌, length, take, get_or, map, refl, ap, arith}
-use Rattle.std.specs.Prelude.{filter, not, is_some, Some, if◌then◌else◌}
+-- The word of the leaves of nodes.
+use Rattle.std.proofs.Common.{◌≡◌, ℕ, ◌+◌, ◌*◌, ◌<◌, ◌≤◌, List, [], ◌∷◌, ◌++◌, length, take, get_or, map, ap, arith}
 use Rattle.std.specs.Prelude.{All, ◌^◌, ◌%◌, ◌-◌}
 use Rattle.std.proofs.lemmas.Nat.{pow_below}
 use Rattle.std.proofs.lemmas.List.{map-append, take_more}
@@ -8,24 +7,11 @@ use Rattle.std.proofs.lemmas.List.Elements.{All-get_or}
 use Rattle.areanode.specs.Trees.{IsTreeDepth, inner_in, nodes_in}
 use Rattle.areanode.specs.Depths.{sizes_of_depth}
 use Rattle.areanode.specs.declared.sizes.TheConstants.{MOST_LEAVES}
-use Rattle.core_steps.specs.Reads.{player_at, without_player}
 use Rattle.core_steps.specs.Held.{bits_of_leaves}
-use Rattle.core_seats.specs.declared.seat.PlayerRead.{PlayerRead}
-use Rattle.core_seats.specs.Seats.{player_read_of}
 
 pub bits_more : (xs ys : List ℕ) → bits_of_leaves (xs ++ ys) ≡ bits_of_leaves xs + bits_of_leaves ys
 bits_more [] ys = omega arith
 bits_more (x ∷ xs) ys = omega (arith, bits_more xs ys)
-
-pub without_mapped : (slot : ℕ) (xs : List PlayerRead) → map player_read_of (filter (λ (r : PlayerRead). not (r.slot == slot)) xs) ≡ without_player slot (map player_read_of xs)
-without_mapped slot [] = refl
-without_mapped slot (x ∷ xs) = by_test (x.slot == slot) (without_mapped slot xs)
-  where
-    by_test : (b : Bool) → map player_read_of (filter (λ (r : PlayerRead). not (r.slot == slot)) xs) ≡ without_player slot (map player_read_of xs)
-        → map player_read_of (if not b then x ∷ filter (λ (r : PlayerRead). not (r.slot == slot)) xs else filter (λ (r : PlayerRead). not (r.slot == slot)) xs)
-        ≡ (if not b then player_read_of x ∷ without_player slot (map player_read_of xs) else without_player slot (map player_read_of xs))
-    by_test true rest = rest
-    by_test false rest = ap (λ rs. player_read_of x ∷ rs) rest
 
 low_leaf : (s : ℕ) → s < MOST_LEAVES → 1 * 2 ^ s % 2 ^ 64 ≡ 2 ^ s
 low_leaf s low = let small = pow_below s MOST_LEAVES low in omega arith
@@ -58,15 +44,3 @@ leaf_small depth nodes k word s is_depth below all is small =
     let bit = low_leaf s low in
     let fits = pow_below s MOST_LEAVES low in
     omega (arith, bit, fits)
-
--- without what was loaded of a player of whom nothing was, the list is the same
-pub none_dropped : (slot : ℕ) (xs : List PlayerRead) → is_some (player_at (map player_read_of xs) slot) ≡ false
-    → filter (λ (r : PlayerRead). not (r.slot == slot)) xs ≡ xs
-none_dropped slot [] none = refl
-none_dropped slot (x ∷ xs) none = by_test (x.slot == slot) none (none_dropped slot xs)
-  where
-    by_test : (b : Bool) → is_some (if b then Some x.words else player_at (map player_read_of xs) slot) ≡ false
-        → (is_some (player_at (map player_read_of xs) slot) ≡ false → filter (λ (r : PlayerRead). not (r.slot == slot)) xs ≡ xs)
-        → (if not b then x ∷ filter (λ (r : PlayerRead). not (r.slot == slot)) xs else filter (λ (r : PlayerRead). not (r.slot == slot)) xs) ≡ x ∷ xs
-    by_test true none same = cc
-    by_test false none same = ap (λ rs. x ∷ rs) (same none)

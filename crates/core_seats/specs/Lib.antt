@@ -1,4 +1,4 @@
--- The seats of the pure core in code: how their plain fields are the views of the definitions.
+-- The rules of an action's world, and what a seat does next by them.
 pub use Rattle.box_strips.specs.Places as PlaceBits
 pub use Rattle.box_strips.specs.Strips as BoxStrips
 pub use Rattle.core_steps.specs.Cells
@@ -10,11 +10,9 @@ pub use Rattle.core_steps.specs.Steps
 pub use Rattle.core_steps.specs.Stands
 pub use Rattle.core_steps.specs.Machine
 pub mod Starts
-pub mod ThingReads
-pub mod Points
+pub mod PlayerReads
 pub mod Logs
 pub mod Refusals
-pub mod Seats
 pub mod Shown
 pub mod NearRecords
 pub mod NearKept
@@ -24,5 +22,4 @@ pub mod Going
 pub mod Sound
 pub mod Nexts
 pub mod Ready
-pub mod StepsLeft
 pub mod Laws

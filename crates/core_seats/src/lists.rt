@@ -3,28 +3,18 @@ ghost use Rattle.std.specs.Prelude.{length, filter, map, not, if◌then◌else�
 ghost use Rattle.std.specs.List.{range_with_len};
 ghost use Rattle.areanode.specs.Words.{has_bit};
 ghost use Rattle.areanode.specs.Trees.{IsTreeDepth, leaf_node, inner_in, leaves_in, nodes_in};
-ghost use Rattle.core_steps.specs.Reads.{players_in};
 ghost use Rattle.core_steps.specs.Held.{bits_of_leaves};
 
-use crate::point::{NodeQueue, SlotQueue, WordList};
-use crate::queue::Queue;
+use crate::queue::{NodeQueue, Queue, WordList};
 use areanode::{MOST_LEAVES, MOST_NODES, Tree};
 use arrayvec::ArrayVec;
 
 /// Whether a bit of a word is set.
-fn is_set(word: u64, i: u8) -> bool
+pub fn is_set(word: u64, i: u8) -> bool
     requires { i < 64 }
     ensures { result ≡ has_bit word i }
 {
     word >> i & 1 == 1
-}
-
-/// Whether a player's bit is set and it isn't the own player.
-fn is_other(word: u64, slot: u8, own: u8) -> bool
-    requires { slot < 64 }
-    ensures { result ≡ (has_bit word slot && not (slot == own)) }
-{
-    is_set(word, slot) && slot != own
 }
 
 /// Whether a node is one of two.
@@ -107,22 +97,6 @@ pub fn inner_among(tree: &Tree, a: u8, b: u8) -> NodeQueue
     nodes
 }
 
-/// The players of a list word but one, in rising slot.
-pub fn players_of(word: u64, own: u8) -> SlotQueue
-    ensures { result.items ≡ players_in word own }
-{
-    let mut players = Queue::new();
-    if word == 0 {
-        return players;
-    }
-    for slot in 0..64u8 {
-        if is_other(word, slot, own) {
-            players.push(slot);
-        }
-    }
-    players
-}
-
 /// One list of nodes after another.
 pub fn nodes_then(front: NodeQueue, back: &NodeQueue) -> NodeQueue
     requires { length front.items + length back.now.items ≤ MOST_NODES }
@@ -148,15 +122,6 @@ pub fn leaf_word(tree: &Tree, nodes: &[u8]) -> u64
         word += 1 << node.saturating_sub(first);
     }
     word
-}
-
-/// The list of one node.
-pub fn one(node: u8) -> NodeQueue
-    ensures { result.items ≡ node ∷ [] }
-{
-    let mut nodes = Queue::new();
-    nodes.push(node);
-    nodes
 }
 
 /// A list of words once more.

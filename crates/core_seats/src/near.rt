@@ -3,13 +3,12 @@ ghost use Rattle.core_steps.specs.Reads.{player_at};
 ghost use Rattle.std.specs.List.{filter_map};
 ghost use Rattle.entity_recs.specs.declared.rec.Rec.{Rec};
 ghost use Rattle.entity_recs.specs.Records as records;
-ghost use Rattle.core_seats.specs.Seats.{player_read_of};
+ghost use Rattle.core_seats.specs.PlayerReads.{player_read_of};
 ghost use Rattle.core_seats.specs.NearRecords as near;
 
 use crate::boxes::touches_region;
 use crate::reading::read_record;
-use crate::reads::{player_words, thing_state};
-use crate::seat::PlayerRead;
+use crate::reads::{PlayerRead, player_words, thing_state};
 use arena_geo::Region;
 use entity_recs::{IDS, NewState, Rec};
 use world_tree::NearList;

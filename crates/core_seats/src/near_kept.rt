@@ -8,8 +8,8 @@ ghost use Rattle.entity_recs.specs.declared.rec.Rec.{Rec};
 
 use crate::boxes::touches_region;
 use crate::reading::read_record;
+use crate::reads::LoadedPlayers;
 use crate::rules::Rules;
-use crate::seat::LoadedPlayers;
 use crate::thing_bits::{ThingBits, near_things};
 use arena_geo::Region;
 use entity_recs::{Action, Rec};

@@ -1,6 +1,14 @@
 ghost use Rattle.std.specs.Prelude.{◌≡◌, ◌≤◌, ◌<◌, ◌+◌, ◌∷◌, ◌++◌, ◌==◌, [], length, MatchOption};
 
+use areanode::MOST_NODES;
+use arrayvec::ArrayVec;
 use std::marker::Model;
+
+/// A list of nodes, each at most once.
+pub type NodeQueue = Queue<u8, MOST_NODES>;
+
+/// The words of a record that were loaded: a player's five, then the state word.
+pub type WordList = ArrayVec<u64, 6>;
 
 /// A list of at most `N` elements in the value itself, whose first is taken out without moving the others.
 #[derive(Drop)]

@@ -1,5 +1,5 @@
 use crate::lists::same_words;
-use crate::point::{NodeQueue, WordList};
+use crate::queue::{NodeQueue, WordList};
 
 /// The last refused take: its node, the word that was found, the own record as loaded, and the leaves wanted.
 #[derive(Drop)]

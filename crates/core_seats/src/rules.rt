@@ -2,14 +2,13 @@ ghost use Rattle.std.specs.Prelude.{◌≡◌};
 ghost use Rattle.areanode.specs.Trees.{IsTreeDepth};
 
 use crate::lists::{bits_below, first_leaf, inner_among, leaf_nodes, leaf_word, nodes_then};
-use crate::near::put_near;
+use crate::near::{put_near, put_things};
 use crate::near_kept::{count_players, player_bits};
-use crate::point::NodeQueue;
+use crate::queue::NodeQueue;
 use crate::reading::read_record;
+use crate::reads::PlayerRead;
 use crate::records::find_record;
-use crate::seat::PlayerRead;
 use crate::thing_bits::{ThingIndex, index_of};
-use crate::thing_reads::ThingReads;
 use areanode::Tree;
 use arena_geo::Region;
 use core_steps::NODE_HOLDERS;
@@ -54,7 +53,7 @@ fn has_its_depth(tree: &Tree)
 
 impl<'a, A: Action> Rules<'a, A> {
     ghost use Rattle.std.specs.Prelude.{◌≡◌, ◌<◌, ◌≤◌, ◌+◌, ◌*◌, ◌%◌, ◌^◌, List, [], suc, map, length, All, IfOk};
-    ghost use Rattle.std.specs.Prelude.{if◌then◌else◌};
+    ghost use Rattle.std.specs.Prelude.{if◌then◌else◌, vec_capacity};
     ghost use Rattle.entity_recs.specs.declared.limits.TheConstants.{IDS};
     ghost use Rattle.entity_recs.specs.Actions.{HasPlayer, IsCall};
     ghost use Rattle.entity_recs.specs.Records.{IsRecord};
@@ -65,7 +64,7 @@ impl<'a, A: Action> Rules<'a, A> {
     ghost use Rattle.core_steps.specs.Reads.{things_in, record_read, near_loaded};
     ghost use Rattle.core_steps.specs.Held.{leaf_word};
     ghost use Rattle.core_steps.specs.Stands.{IsLawful, IsStart};
-    ghost use Rattle.core_seats.specs.Seats.{player_read_of};
+    ghost use Rattle.core_seats.specs.PlayerReads.{player_read_of};
     ghost use Rattle.areanode.specs.Trees.{leaves_of, visited_of, inner_in, leaves_in, nodes_in};
     ghost use Rattle.areanode.specs.declared.sizes.TheConstants.{MOST_LEAVES, MOST_NODES};
     ghost use Rattle.arena_geo.specs.Bounds.{Bounds};
@@ -218,14 +217,15 @@ impl<'a, A: Action> Rules<'a, A> {
         inner_among(&self.tree, a, b)
     }
 
-    /// The things of the map whose absolute box touches a region are those whose states are to be loaded, in rising id, in
-    /// place of those that were.
-    pub fn list_things(&self, region: &Region, things: &mut ThingReads)
-        requires { length (fixed_of A.meaning self.now).start.ids ≤ things.old.room }
-        ensures { things.new
-            ≡ record things.old { ids = things_in (fixed_of A.meaning self.now) region.now } }
+    /// Puts the ids of the things of the map whose absolute box touches a region into an empty list, in rising id. It
+    /// takes no memory.
+    pub fn put_things(&self, region: &Region, ids: &mut Vec<u16>)
+        requires empty { ids.old.items ≡ [] }
+        requires room { length (fixed_of A.meaning self.now).start.ids ≤ vec_capacity ids.old }
+        ensures ids { ids.new.items ≡ things_in (fixed_of A.meaning self.now) region.now }
+        ensures room { vec_capacity ids.new ≡ vec_capacity ids.old }
     {
-        things.list_things(self.start.as_slice(), region);
+        put_things(self.start.as_slice(), region, ids);
     }
 
     /// Puts the records loaded that touch a region, but this player's, into an empty list, in rising id. It has room for

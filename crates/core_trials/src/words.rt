@@ -1,6 +1,5 @@
 use crate::players::NEAR;
-use core_machine::Words;
-use core_seats::{Cell, Seat, Store};
+use core_machine::{Cell, Seat, Store, Words};
 use core_steps::{TABLE_NODES, TABLE_STATES, encode};
 use entity_recs::Cmd;
 use std::alloc::{AllocError, Global};

@@ -9,7 +9,7 @@ use Rattle.core_steps.specs.Nodes.{Fixed}
 use Rattle.core_steps.specs.Points.{Idle}
 use Rattle.ruled_words.specs.Passes.{PassView, IsPassOf, setting_of}
 use Rattle.ruled_words.specs.declared.setting.Setting.{Setting}
-use Rattle.region_locks.specs.NewPasses.{new_passes, other_pass}
+use Rattle.ruled_words.specs.NewPasses.{new_passes, other_pass}
 use Rattle.move_phase.specs.Serving.{served_by}
 use Rattle.move_phase.specs.Running.{MayServe, HaveRoom}
 

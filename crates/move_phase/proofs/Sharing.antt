@@ -13,8 +13,8 @@ use Rattle.world_tree.specs.Worlds.{WorldView}
 use Rattle.core_steps.specs.Nodes.{Fixed}
 use Rattle.ruled_words.specs.Starts.{fixed_by}
 use Rattle.ruled_words.specs.Passes.{PassView, TableView, IsPassOf, fixed_in, setting_of}
-use Rattle.region_locks.specs.NewPasses.{new_passes, first_pass}
-use Rattle.region_locks.specs.Closing.{IsClosed, log_from}
+use Rattle.ruled_words.specs.NewPasses.{new_passes, first_pass}
+use Rattle.shared_moves.specs.Closing.{IsClosed, log_from}
 use Rattle.move_phase.specs.Serving.{served_by, entries_from}
 use Rattle.move_phase.specs.Running.{AreOfLive, HasServed, HaveRoom, HaveRun}
 use Rattle.move_phase.specs.Sharing.{IsReadyFor}

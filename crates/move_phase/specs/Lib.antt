@@ -1,6 +1,6 @@
 -- The definitions of the moves that each worker serves.
 pub use Rattle.move_journal.specs.Merges
-pub use Rattle.region_locks.specs.Moves
+pub use Rattle.shared_moves.specs.Moves
 pub use Rattle.plain_server.specs.RecordsById
 pub use Rattle.plain_server.specs.Moving
 pub mod Serving

@@ -7,7 +7,7 @@ use Rattle.move_journal.specs.Logs.{JournalView}
 use Rattle.world_tree.specs.Worlds.{WorldView}
 use Rattle.core_steps.specs.Nodes.{Fixed, has}
 use Rattle.ruled_words.specs.Passes.{PassView, IsPassOf}
-use Rattle.region_locks.specs.Closing.{HasNoCommand, IsClosed}
+use Rattle.shared_moves.specs.Closing.{HasNoCommand, IsClosed}
 use Rattle.move_phase.specs.Serving.{served_by, entries_from}
 
 -- the commands are those of players that were live at the start

@@ -4,7 +4,7 @@ use Rattle.atomic_table.specs.Seated.{TableId}
 use Rattle.entity_recs.specs.Commands.{Command}
 use Rattle.core_steps.specs.Nodes.{Fixed}
 use Rattle.ruled_words.specs.Passes.{PassView, IsPassOf, setting_of}
-use Rattle.region_locks.specs.NewPasses.{new_passes}
+use Rattle.ruled_words.specs.NewPasses.{new_passes}
 use Rattle.move_phase.specs.Running.{AreOfLive, HaveRoom}
 
 -- the table and its passes may run these commands: the passes are new, one a worker, each has room for just the commands

@@ -2,13 +2,12 @@ ghost use Rattle.std.specs.Prelude.{◌≡◌, ℕ, ◌+◌, ◌<◌, ◌≤◌,
 ghost use Rattle.entity_recs.specs.Commands.{command_of};
 ghost use Rattle.core_steps.specs.Nodes.{has};
 ghost use Rattle.ruled_words.specs.Passes.{fixed_in, IsOwn};
-ghost use Rattle.region_locks.specs.Closing.{HasNoCommand};
+ghost use Rattle.shared_moves.specs.Closing.{HasNoCommand};
 ghost use Rattle.move_phase.specs.Serving.{served_by};
 ghost use Rattle.move_phase.specs.Running.{AreOfLive, MayServe, HasServed};
 
 use entity_recs::{Action, Cmd};
-use region_locks::{Pass, PassList};
-use shared_moves::{Gate, Shared};
+use shared_moves::{Gate, Pass, PassList, Shared};
 use std::sync::Wait;
 use std::thread;
 use std::thread::Threads;

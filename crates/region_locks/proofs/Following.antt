@@ -7,17 +7,27 @@ use Rattle.core_steps.specs.Nodes.{Fixed}
 use Rattle.core_steps.specs.Reads.{View}
 use Rattle.core_seats.specs.Going.{view_found}
 use Rattle.entity_recs.specs.Commands.{command_of}
-use Rattle.core_seats.specs.declared.seat.Seat as mirrors
+use Rattle.core_machine.specs.declared.seat.Seat as seats
 use Rattle.core_seats.specs.Ready.{is_resolving}
-use Rattle.core_seats.specs.Seats.{view_of, things_room}
-use Rattle.ruled_words.specs.Hands.{pass_view}
-use Rattle.ruled_words.specs.Passes.{PassView, effect_kept, next_of_pass, pass_after, IsPassOf, HasGone}
+use Rattle.core_machine.specs.Seats.{view_of, given_of, things_room}
+use Rattle.ruled_words.specs.Passes.{PassView, TableView, effect_kept, next_of_pass, pass_after, IsPassOf, HasGone}
+use Rattle.ruled_words.specs.Hands.{pass_beside}
 use Rattle.world_tree.specs.Nears.{NearView}
 use Rattle.ruled_words.specs.declared.setting.Setting.{Setting}
 use Rattle.region_locks.specs.Following.{CanFollow}
-use Rattle.region_locks.specs.PassLists.{HasItsLists}
+use Rattle.region_locks.specs.PassLists.{HasItsLists, pass_view}
 use Rattle.ruled_words.proofs.Owns.{own_after}
 use Rattle.core_seats.specs.Nexts.{the_next}
+
+-- the hand's pass is the pass
+pub beside_is : (p hand : PassView) (seat : seats.Seat) (effect : Option Effect) (near : NearView) → pass_view hand seat effect ≡ p → HasItsLists hand seat near
+    → pass_beside hand (given_of seat) seat.quits effect ≡ p
+beside_is p hand seat effect near is lists =
+    ap (λ (v : View). record (pass_beside hand (given_of seat) seat.quits effect) { view = v }) (sym lists.same_view) ∙ is
+
+-- what holds of a pass of a table holds of its hand's pass
+pub of_hand : {A : Type 0} (P : TableView A → PassView → Type 0) (t u : TableView A) (p q : PassView) → t ≡ u → q ≡ p → P u p → P t q
+of_hand P t u p q same is here = subst (λ (v : TableView _). P v q) (sym same) (subst (P u) (sym is) here)
 
 -- the view after what comes next of a pass
 abbrev view_next : Fixed → PassView → ℕ → View
@@ -42,18 +52,18 @@ can_follow F G passes table p q found hand same is own comes gone =
     }))
 
 -- what a pass is after its step
-pub record Stepped (F : Fixed) (passes : ℕ) (table : TableId) (p : PassView) (found : ℕ) (hand : PassView) (mirror : mirrors.Seat) (effect : Option Effect) : Type 0 where
-  pub mirrors : view_of mirror ≡ hand.view
-  pub pass : pass_view hand mirror effect ≡ pass_after F (the_next (next_of_pass F p)) found p
-  pub own : IsPassOf F passes table (pass_view hand mirror effect)
+pub record Stepped (F : Fixed) (passes : ℕ) (table : TableId) (p : PassView) (found : ℕ) (hand : PassView) (seat : seats.Seat) (effect : Option Effect) : Type 0 where
+  pub same_view : view_of seat ≡ hand.view
+  pub pass : pass_view hand seat effect ≡ pass_after F (the_next (next_of_pass F p)) found p
+  pub own : IsPassOf F passes table (pass_view hand seat effect)
 
-module _ (F G : Fixed) (passes : ℕ) (table : TableId) (p : PassView) (found : ℕ) (old new : PassView) (mirror after : mirrors.Seat) (effect effect_after : Option Effect)
-    (same : G ≡ F) (is : pass_view old mirror effect ≡ p) (own : IsPassOf F passes table p) (comes : is_some (next_of_pass F p) ≡ true)
+module _ (F G : Fixed) (passes : ℕ) (table : TableId) (p : PassView) (found : ℕ) (old new : PassView) (seat after : seats.Seat) (effect effect_after : Option Effect)
+    (same : G ≡ F) (is : pass_view old seat effect ≡ p) (own : IsPassOf F passes table p) (comes : is_some (next_of_pass F p) ≡ true)
     (gone : HasGone F passes p found new) where
-  pub stepped : view_of after ≡ view_next G (pass_view old mirror effect) found → after.given ≡ None → after.quits ≡ false → effect_after ≡ effect_kept (view_of after) effect
+  pub stepped : view_of after ≡ view_next G (pass_view old seat effect) found → after.given ≡ None → after.quits ≡ false → effect_after ≡ effect_kept (view_of after) effect
       → Stepped F passes table p found new after effect_after
   stepped follows given quits kept =
-      let q = pass_view old mirror effect in
+      let q = pass_view old seat effect in
       let followed : view_of after ≡ view_next F p found = follows ∙ ap (λ (H : Fixed). view_next H q found) same ∙ ap (λ (r : PassView). view_next F r found) is in
       let effect_is : effect_after ≡ effect_kept (view_next F p found) p.effect =
       kept ∙ ap (λ (r : PassView). effect_kept (view_of after) r.effect) is ∙ ap (λ (v : View). effect_kept v p.effect) followed in
@@ -68,44 +78,44 @@ module _ (F G : Fixed) (passes : ℕ) (table : TableId) (p : PassView) (found : 
         tally = gone.tally i;
       } in
       record {
-        mirrors = followed ∙ sym gone.went;
+        same_view = followed ∙ sym gone.went;
         pass = pass;
         own = subst (IsPassOf F passes table) (sym pass) (own_after F passes table p found own comes gone.sound_sight);
       }
 
 -- how many records a pass knows of are those of the start
-records_are : (F : Fixed) (passes : ℕ) (table : TableId) (p hand : PassView) (mirror : mirrors.Seat) (effect : Option Effect)
-    → pass_view hand mirror effect ≡ p → IsPassOf F passes table p → hand.setting.records ≡ length F.start.ids
-records_are F passes table p hand mirror effect is own = ap (λ (q : PassView). q.setting.records) is ∙ ap (λ (s : Setting). s.records) own.at_setting
+records_are : (F : Fixed) (passes : ℕ) (table : TableId) (p hand : PassView) (seat : seats.Seat) (effect : Option Effect)
+    → pass_view hand seat effect ≡ p → IsPassOf F passes table p → hand.setting.records ≡ length F.start.ids
+records_are F passes table p hand seat effect is own = ap (λ (q : PassView). q.setting.records) is ∙ ap (λ (s : Setting). s.records) own.at_setting
 
 -- the seat in plain values has room for the states of all things
-pub things_room_for : (F G : Fixed) (passes : ℕ) (table : TableId) (p hand : PassView) (mirror : mirrors.Seat) (effect : Option Effect) (near : NearView)
-    → G ≡ F → pass_view hand mirror effect ≡ p → IsPassOf F passes table p → HasItsLists hand mirror near → length G.start.ids ≤ things_room mirror
-things_room_for F G passes table p hand mirror effect near same is own lists =
-    let records = records_are F passes table p hand mirror effect is own in
+pub things_room_for : (F G : Fixed) (passes : ℕ) (table : TableId) (p hand : PassView) (seat : seats.Seat) (effect : Option Effect) (near : NearView)
+    → G ≡ F → pass_view hand seat effect ≡ p → IsPassOf F passes table p → HasItsLists hand seat near → length G.start.ids ≤ things_room seat
+things_room_for F G passes table p hand seat effect near same is own lists =
+    let records = records_are F passes table p hand seat effect is own in
     let all = ap (λ (H : Fixed). length H.start.ids) same in
     let fits = lists.things_fit in
     omega (arith, records, all, fits)
 
 -- the near list has room for all that a move can touch
-pub near_room_for : (F : Fixed) (passes : ℕ) (table : TableId) (p hand : PassView) (mirror : mirrors.Seat) (effect : Option Effect) (near : NearView)
-    → pass_view hand mirror effect ≡ p → IsPassOf F passes table p → HasItsLists hand mirror near → 64 + length F.start.ids ≤ near.room
-near_room_for F passes table p hand mirror effect near is own lists =
-    let records = records_are F passes table p hand mirror effect is own in
+pub near_room_for : (F : Fixed) (passes : ℕ) (table : TableId) (p hand : PassView) (seat : seats.Seat) (effect : Option Effect) (near : NearView)
+    → pass_view hand seat effect ≡ p → IsPassOf F passes table p → HasItsLists hand seat near → 64 + length F.start.ids ≤ near.room
+near_room_for F passes table p hand seat effect near is own lists =
+    let records = records_are F passes table p hand seat effect is own in
     let fits = lists.near_fits in
     omega (arith, records, fits)
 
 -- the lists have their room after the step
-pub lists_kept : (F : Fixed) (passes : ℕ) (table : TableId) (p : PassView) (found : ℕ) (old new : PassView) (mirror after : mirrors.Seat) (effect effect_after : Option Effect) (near : NearView)
-    → pass_view old mirror effect ≡ p → IsPassOf F passes table p → HasItsLists old mirror near → Stepped F passes table p found new after effect_after
-    → things_room after ≡ things_room mirror → HasItsLists new after near
-lists_kept F passes table p found old new mirror after effect effect_after near is own lists stepped_to kept =
-    let before = records_are F passes table p old mirror effect is own in
+pub lists_kept : (F : Fixed) (passes : ℕ) (table : TableId) (p : PassView) (found : ℕ) (old new : PassView) (seat after : seats.Seat) (effect effect_after : Option Effect) (near : NearView)
+    → pass_view old seat effect ≡ p → IsPassOf F passes table p → HasItsLists old seat near → Stepped F passes table p found new after effect_after
+    → things_room after ≡ things_room seat → HasItsLists new after near
+lists_kept F passes table p found old new seat after effect effect_after near is own lists stepped_to kept =
+    let before = records_are F passes table p old seat effect is own in
     let records = ap (λ (s : Setting). s.records) stepped_to.own.at_setting in
     let things = lists.things_fit in
     let fits = lists.near_fits in
     record {
-      mirrors = stepped_to.mirrors;
+      same_view = stepped_to.same_view;
       things_fit = omega (arith, before, records, things, kept);
       near_fits = omega (arith, before, records, fits);
     }

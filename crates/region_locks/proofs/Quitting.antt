@@ -22,7 +22,8 @@ use Rattle.core_seats.specs.Ready.{is_resolving, IsReady}
 use Rattle.core_seats.specs.Sound.{IsSound}
 use Rattle.ruled_words.specs.Passes.{PassView, next_of_pass, pass_after, node_taken_next, IsPassOf}
 use Rattle.ruled_words.proofs.Takes.{quit_taken, none_taken}
-use Rattle.region_locks.specs.Quitting.{has_next_step, next_step, HasQuit, MayBegin}
+use Rattle.shared_moves.specs.InHand.{MayBegin}
+use Rattle.region_locks.specs.Quitting.{has_next_step, next_step, HasQuit}
 
 -- ---- which passes have a next step
 

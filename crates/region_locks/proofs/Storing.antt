@@ -18,11 +18,11 @@ use Rattle.ruled_words.specs.Passes.{PassView, next_of_pass, pass_after}
 use Rattle.region_locks.specs.NextCalls.{bit_owed, index_owed, word_owed, store_made, store_made_next, is_clear, is_put, is_set, is_unlink_next, is_store_next, is_link_next}
 
 -- what is known of a pass whose next step makes this store
-record Makes (p : PassView) (store : Store) (next : Next) : Type 0 where
-  nodes : List ℕ
-  stores : List Store
-  owed : stores_owed p.view.point ≡ store ∷ stores
-  is : next ≡ StoreWord nodes store stores
+pub record Makes (p : PassView) (store : Store) (next : Next) : Type 0 where
+  pub nodes : List ℕ
+  pub stores : List Store
+  pub owed : stores_owed p.view.point ≡ store ∷ stores
+  pub is : next ≡ StoreWord nodes store stores
 
 none_made : {R : Type 0} (store : Store) → None ≡ Some store → R
 none_made store e = cc
@@ -78,7 +78,7 @@ module _ (F : Fixed) (p : PassView) (store : Store) where
   makes_at (Returning leaves) at e = give_makes store (next_give (Returning leaves) p.view.wanted) e
   makes_at (Yielding nodes leaves) at e = give_makes store (next_give (Yielding nodes leaves) p.view.wanted) e
 
-  makes_next : store_made_next (next_of_pass F p) ≡ Some store → Makes p store (the_next (next_of_pass F p))
+  pub makes_next : store_made_next (next_of_pass F p) ≡ Some store → Makes p store (the_next (next_of_pass F p))
   makes_next made = by_quits p.quits made
     where
       by_quits : (quits : Bool) → store_made_next (if quits then Some (quitting (first_yield F p.view)) else next_point F p.view p.given p.effect p.view.point) ≡ Some store

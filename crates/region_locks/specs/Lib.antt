@@ -1,16 +1,12 @@
--- A pass, what each call does to it, and what a move leaves of it.
+-- A pass, and what each call does to it.
 pub mod NextCalls
-pub mod NewPasses
 pub mod PassLists
 pub mod Following
-pub mod Turns
-pub mod Pursuits
-pub mod Points
-pub mod Moments
 pub mod Quitting
-pub mod Closing
-pub mod Moves
-pub mod Runs
+pub use Rattle.shared_moves.specs.InHand
+pub use Rattle.shared_moves.specs.Closing
+pub use Rattle.shared_moves.specs.Moves
+pub use Rattle.ruled_words.specs.NewPasses
 pub use Rattle.ruled_words.specs.Sights
 pub use Rattle.ruled_words.specs.Starts
 pub use Rattle.ruled_words.specs.Going
@@ -19,7 +15,6 @@ pub use Rattle.ruled_words.specs.WordSteps
 pub use Rattle.ruled_words.specs.Passes
 pub use Rattle.ruled_words.specs.Hands
 pub use Rattle.ruled_words.specs.Loads
-pub use Rattle.ruled_words.specs.Straight
 pub use Rattle.core_steps.specs.Cells
 pub use Rattle.core_steps.specs.Nodes
 pub use Rattle.core_steps.specs.Points as CorePoints

@@ -31,6 +31,11 @@ abbrev pub word_owed : List Store → ℕ
 word_owed (Put cell x ∷ stores) = x
 word_owed _ = 0
 
+-- the first of these stores clears the own bit
+abbrev pub clears_first : List Store → Bool
+clears_first (Clear node ∷ stores) = true
+clears_first _ = false
+
 -- the store that a step makes
 abbrev pub store_made : Next → Option Store
 store_made (StoreWord nodes store stores) = Some store

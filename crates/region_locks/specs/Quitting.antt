@@ -1,9 +1,9 @@
 -- What a pass does next as a step, and the pass after it is to give up its command.
-use Rattle.std.specs.Prelude.{◌≤◌, ◌≡◌, ℕ, ◌<◌, Bool, true, false, not, ◌&&◌, ◌||◌, length, Option, None, is_some}
+use Rattle.std.specs.Prelude.{◌≤◌, ◌≡◌, ℕ, Bool, true, false, not, ◌&&◌, ◌||◌, Option, is_some}
 use Rattle.std.specs.Option.{option_map}
 use Rattle.core_steps.specs.declared.step.Step.{Step}
 use Rattle.core_steps.specs.Nodes.{Fixed}
-use Rattle.core_steps.specs.Points.{Idle, stage_of, is_busy}
+use Rattle.core_steps.specs.Points.{stage_of, is_busy}
 use Rattle.core_steps.specs.Steps.{first_yield}
 use Rattle.core_steps.specs.Machine.{YieldCount, step_of}
 use Rattle.core_seats.specs.Ready.{is_resolving}
@@ -26,8 +26,6 @@ pub record HasQuit (F : Fixed) (old new : PassView) : Type 0 where
   pub none_held : is_some (first_yield F old.view) ≡ false → new ≡ pass_after F YieldCount found old
   pub seen : is_some (first_yield F old.view) ≡ false → old.view.seen ≤ found
 
--- the pass has no command in hand, and room for one
-pub record MayBegin (p : PassView) : Type 0 where
-  pub none : p.given ≡ None
-  pub idle : p.view.point ≡ Idle
-  pub room : length p.view.log < p.view.room
+-- the pass has a command in hand
+abbrev pub has_command_in_hand : PassView → Bool
+has_command_in_hand p = is_some p.given || is_busy (stage_of p.view.point)

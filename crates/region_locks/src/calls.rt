@@ -3,7 +3,6 @@
 mod begin;
 mod commit;
 mod effect;
-mod give_up;
 mod load_rec;
 mod quit;
 mod resolve;

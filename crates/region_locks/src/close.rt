@@ -4,16 +4,13 @@ ghost use Rattle.core_steps.specs.declared.sizes.TheConstants.{MOST_SEATS};
 ghost use Rattle.world_tree.specs.Worlds.{IsLinked};
 ghost use Rattle.ruled_words.specs.Passes.{fixed_in, sight_of, IsPassOf};
 ghost use Rattle.ruled_words.specs.Sights.{AreRefusalsServed};
-ghost use Rattle.region_locks.specs.Closing.{tally_of_all, AreRefusalsHeld, HasNoCommand, sight_at_end, log_from, IsClosed};
+ghost use Rattle.shared_moves.specs.Closing.{tally_of_all, AreRefusalsHeld, HasNoCommand, sight_at_end, log_from, IsClosed};
 
 use crate::table::{NodeTable, PassList};
 use entity_recs::Action;
 use move_journal::LogList;
-use records::relink_all;
 use ruled_words::{Hand, SharedWords};
 use world_tree::World;
-
-mod records;
 
 /// Ends the seats of all passes but the first into the first one's, in their order, and puts the entries of each pass's
 /// log into the empty list. It takes no memory.
@@ -41,8 +38,6 @@ fn end_all<A: Action>(words: &SharedWords<A>, mut passes: PassList<A>, logs: &mu
 }
 
 impl<'a, A: Action> NodeTable<'a, A> {
-    // The words are copied into an array and the table is freed before any record is read, so the functions on
-    // records see plain words.
     /// Closes the table: all its passes are ended, each one's entries are put into the empty list, by number, and the
     /// records of the world that the table began with are made those of the shared words. It takes no memory.
     pub fn close(self, passes: PassList<A>, world: &mut World, logs: &mut LogList)
@@ -62,6 +57,6 @@ impl<'a, A: Action> NodeTable<'a, A> {
     {
         let NodeTable { words } = self;
         let first = end_all(&words, passes, logs);
-        relink_all(&words.close(first), world);
+        words.close_into(first, world);
     }
 }

@@ -1,9 +1,7 @@
-//! Passes at shared words under one rule: each call is a step of the pure core, and a move is such calls in a row.
+//! Passes at shared words under one rule, a call at a time: each call of a pass is a step of the pure core, or a stated run
+//! of steps. So two passes can be interleaved at any step.
 #![tactic(auto)]
 
-pub use again::Again;
-pub use gate::{Gate, Moment, NoGate};
-pub use gate_point::GatePoint;
 pub use holder::Holder;
 pub use pass::Pass;
 pub use ruled_words::{
@@ -12,18 +10,12 @@ pub use ruled_words::{
     steps_keep_the_rule, unused_words_stay_zero,
 };
 pub use table::{NodeTable, PassList};
-pub use turn::Turn;
-pub use went::{RefusedTake, Went};
 
-mod again;
 mod calls;
 mod close;
-mod gate;
-mod gate_point;
+mod follow;
 mod holder;
-mod mirror;
-mod moving;
+mod leaves;
+mod owed;
 mod pass;
 mod table;
-mod turn;
-mod went;

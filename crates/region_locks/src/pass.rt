@@ -1,59 +1,62 @@
-ghost use Rattle.std.specs.Prelude.{◌≡◌, ◌≤◌, ◌+◌, false, None};
-ghost use Rattle.core_seats.specs.Seats.{view_of, things_room};
+ghost use Rattle.std.specs.Prelude.{◌≡◌, ◌≤◌, IfOk};
+ghost use Rattle.entity_recs.specs.declared.limits.TheConstants.{IDS};
 ghost use Rattle.ruled_words.specs.Passes.{sight_of};
-ghost use Rattle.ruled_words.specs.Sights.{no_tally};
-ghost use Rattle.region_locks.specs.NewPasses.{new_pass};
-ghost use Rattle.region_locks.specs.Closing.{log_from};
+ghost use Rattle.shared_moves.specs.Closing.{log_from};
+ghost use Rattle.region_locks.specs.PassLists.{IsNew};
+ghost use Rattle.region_locks.specs.Quitting.{has_command_in_hand};
 
-use core_seats::Seat;
-use entity_recs::Effect;
+use core_machine::{Point, Seat};
+use entity_recs::{Effect, SLOTS};
 use move_journal::Log;
 use ruled_words::Hand;
+use std::alloc::{AllocError, Global};
 use std::marker::{Model, PhantomData};
 use world_tree::NearList;
 
+// What the place at the table has in view is known to clauses alone, so the pass keeps the same in plain values: its seat.
 /// A worker's seat at the table.
 #[derive(Drop)]
 pub struct Pass<A> {
     pub(crate) hand: Hand,
-    pub(crate) mirror: Seat,
+    pub(crate) seat: Seat,
     pub(crate) effect: Option<Effect>,
     pub(crate) near: NearList,
-    pub(crate) of: PhantomData<A>,
+    of: PhantomData<A>,
 }
 
-// What the place at the table has in view is known to clauses alone, so the pass keeps the same in plain values.
 impl<A> Model for Pass<A> {
     ghost use Rattle.ruled_words.specs.Passes.{PassView};
-    ghost use Rattle.region_locks.specs.PassLists.{HasItsLists};
+    ghost use Rattle.region_locks.specs.PassLists.{HasItsLists, pass_view};
 
     ghost Value = { PassView };
 
-    ghost use Rattle.ruled_words.specs.Hands.{pass_view};
+    ghost view = { λ p. pass_view p.hand p.seat p.effect };
 
-    ghost view = { λ p. pass_view p.hand p.mirror p.effect };
-
-    ghost invariant = { λ p. HasItsLists p.hand p.mirror p.near };
+    ghost invariant = { λ p. HasItsLists p.hand p.seat p.near };
 }
 
 impl<A> Pass<A> {
-    /// The pass of a hand that rests, with the same seat in plain values and a near list of its own, in which there is
-    /// room for all that a move can touch.
-    pub(crate) fn resting(hand: Hand, mirror: Seat, near: NearList) -> Pass<A>
-        requires tally { hand.tally ≡ no_tally }
-        requires mirrors { view_of mirror ≡ hand.view }
-        requires rests { (mirror.given ≡ None) × (mirror.quits ≡ false) }
-        requires things { hand.setting.records ≤ things_room mirror }
-        requires near { 64 + hand.setting.records ≤ near.room }
-        ensures { result ≡ new_pass hand.table hand.setting hand.number hand.view }
+    /// The pass of a hand whose seat is new, with room for `room` entries, and from which `made` seats are made: with the
+    /// same seat in plain values, and a near list of its own, in which there is room for all that a move can touch where
+    /// `records` records live at the start. The only error is that memory is refused.
+    pub(crate) fn new(
+        alloc: Global,
+        hand: Hand,
+        room: u32,
+        made: u8,
+        records: usize,
+    ) -> Result<Pass<A>, AllocError>
+        requires new { IsNew records room made hand }
+        requires few { records ≤ IDS }
+        ensures { IfOk result (λ p. p ≡ hand) }
     {
-        Pass {
+        Ok(Pass {
             hand,
-            mirror,
+            seat: Seat::new(alloc, room, made, records)?,
             effect: None,
-            near,
+            near: NearList::new(alloc, SLOTS + records)?,
             of: PhantomData,
-        }
+        })
     }
 
     /// The pass's hand, and the entries of its log with its room. It takes no memory.
@@ -61,7 +64,7 @@ impl<A> Pass<A> {
         ensures hand { (result.0.table ≡ self.table) × (sight_of result.0 ≡ sight_of self) }
         ensures log { result.1 ≡ log_from self }
     {
-        (self.hand, self.mirror.log.into_entries())
+        (self.hand, self.seat.log.into_entries())
     }
 
     /// The pass's number.
@@ -75,6 +78,13 @@ impl<A> Pass<A> {
     pub fn seen(&self) -> u64
         ensures { result ≡ self.now.view.seen }
     {
-        self.mirror.seen
+        self.seat.seen
+    }
+
+    /// Whether the pass has a command in hand, begun or not.
+    pub fn has_command(&self) -> bool
+        ensures { result ≡ has_command_in_hand self.now }
+    {
+        self.seat.given.is_some() || !matches!(self.seat.point, Point::Idle)
     }
 }

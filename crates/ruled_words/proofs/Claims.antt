@@ -30,6 +30,9 @@ use Rattle.ruled_words.specs.Writing.{as_tried, HasTried, nodes_written, nodes_h
 use Rattle.ruled_words.proofs.Owns.{no_effect}
 use Rattle.ruled_words.proofs.LoadedWords.{plain_is, plain_after, plain_next}
 use Rattle.ruled_words.proofs.PlainHands.{keeping_next, left_next, after_next_is}
+use Rattle.ruled_words.specs.GivingUp.{NoTakeWasRefused, IsSameCommand}
+use Rattle.ruled_words.proofs.GivingUp.{same_command}
+use Rattle.ruled_words.proofs.RefusedTakes.{none_refused_still}
 use Rattle.ruled_words.proofs.TriedTakes.{tried_on, tried_again, not_tried}
 
 -- ---- the word of a write node
@@ -110,15 +113,15 @@ module _ (F : Fixed) (passes : ℕ) (table : TableId) (start : PassView) (view :
 
 -- ---- a further write node
 
-module _ (F : Fixed) (passes : ℕ) (table : TableId) (p : PassView) (node : ℕ) (own : IsPassOf F passes table p) (plain : IsPlain p)
-    (at : p.view.point ≡ Claiming (nodes_held p.view.point) (node ∷ claims_left p.view.point)) where
+module _ (F : Fixed) (passes : ℕ) (table : TableId) (p : PassView) (nodes : List ℕ) (node : ℕ) (own : IsPassOf F passes table p) (plain : IsPlain p)
+    (at : p.view.point ≡ Claiming nodes (node ∷ claims_left p.view.point)) where
   pub further_is : next_of_pass F p ≡ Some (TakeNode node)
   further_is = plain_next F p _ plain at
 
   further_inner : is_leaf F node ≡ false
   further_inner =
       let view = p.view in
-      let got = nodes_held view.point in
+      let got = nodes in
       let rest = claims_left view.point in
       let before = record_read view.cmd.slot view.again in
       let is : IsClaimingAfter F (region_in F view.cmd view.own) view.cmd.slot before view.lists view.others view.states view.effect got (node ∷ rest) =
@@ -190,6 +193,11 @@ module _ (F : Fixed) (p : PassView) (e : Effect) (node : ℕ) (plain : IsPlain p
       ∙ ap (λ (w : ℕ). if found == 0 then w else found)
       (held_to_write F p.number node p.view.wanted (two_inner F (home F (record_read p.view.cmd.slot p.view.again)) (home F e.me) node (first_there (nodes_written F p.view e) node there)))
 
+  -- the hand after the take
+  pub first_made : (new : PassView) (found : ℕ) → IsPlain new → still_keeping new e ≡ pass_after F (the_next (next_of_pass F (pass_keeping p e))) found (pass_keeping p e)
+      → new ≡ in_view_with p (view_found F p.view (ClaimNode e node) found) (tally_after (ClaimNode e node) found (word_left F p.number p.view (ClaimNode e node) found) p.tally)
+  first_made new found plain_new after = with_effect_after F p e plain at (ClaimNode e node) (claims_first e (nodes_written F p.view e) node there) new found plain_new after
+
   pub first_tried : (new : PassView) (found : ℕ) (b : Bool) → b ≡ (found == 0) → IsPlain new → still_keeping new e ≡ pass_after F (the_next (next_of_pass F (pass_keeping p e))) found (pass_keeping p e)
       → HasTried p (if b then view_after_claim F e node p.view else p.view) new
   first_tried new found b same plain_new after =
@@ -242,10 +250,6 @@ tries_none F passes table p own = record { own = own; tried = tried_none p own.p
 abbrev pub claiming_view : View → Effect → List ℕ → List ℕ → View
 claiming_view view e got rest = record view { effect = Some e; point = Claiming got rest }
 
--- the node that is taken next
-pub next_claim : (point : Point) (got left : List ℕ) (node : ℕ) → point ≡ Claiming got (node ∷ left) → point ≡ Claiming (nodes_held point) (node ∷ claims_left point)
-next_claim point got left node at = at ∙ sym (ap (λ (q : Point). Claiming (nodes_held q) (node ∷ claims_left q)) at)
-
 pub first_node : (nodes : List ℕ) → (length nodes == 0) ≡ false → first nodes ≡ Some (slice_index_or nodes 0 0)
 first_node [] some = cc
 first_node (node ∷ nodes) some = refl
@@ -268,8 +272,14 @@ module _ (F : Fixed) (passes : ℕ) (table : TableId) (start : PassView) (e : Ef
     claims_there : Tries F passes table start (claiming_view start.view e (take i nodes) (slice_index_or nodes i 0 ∷ drop (i + 1) nodes)) now
     claims_there = subst (λ (ns : List ℕ). Tries F passes table start (claiming_view start.view e (take i nodes) ns) now) (drop_more nodes i 0 below) is
 
-    pub claim_comes : now.view.point ≡ Claiming (nodes_held now.view.point) (slice_index_or nodes i 0 ∷ claims_left now.view.point)
-    claim_comes = next_claim now.view.point (take i nodes) (drop (i + 1) nodes) (slice_index_or nodes i 0) (ap (λ (q : PassView). q.view.point) claims_there.tried.hand)
+    pub claim_comes : now.view.point ≡ Claiming (take i nodes) (slice_index_or nodes i 0 ∷ claims_left now.view.point)
+    claim_comes =
+        let at = ap (λ (q : PassView). q.view.point) claims_there.tried.hand in
+        at ∙ sym (ap (λ (q : Point). Claiming (take i nodes) (slice_index_or nodes i 0 ∷ claims_left q)) at)
+
+    -- no other command is in hand
+    pub claims_same : NoTakeWasRefused start now → IsSameCommand start now
+    claims_same none = same_command start now (claiming_view start.view e (take i nodes) (drop i nodes)) is.tried.hand none is.tried.tally.begun refl refl refl refl
 
     pub claim_taken : (new : PassView) → IsHandOf F passes table new → HasTried now (view_after_take (slice_index_or nodes i 0) now.view) new
         → Tries F passes table start (claiming_view start.view e (take (i + 1) nodes) (drop (i + 1) nodes)) new
@@ -359,6 +369,10 @@ module _ (F : Fixed) (passes : ℕ) (table : TableId) (start : PassView) (e : Ef
             tally = subst (IsTriedOn one.tally) (sym (ap (λ (q : PassView). q.tally) all_written)) (not_tried one.tally);
           })
 
+      pub none_refused_stored : NoTakeWasRefused start one → NoTakeWasRefused start three
+      none_refused_stored none =
+          none_refused_still start one three none (ap (λ (q : PassView). q.view.refusals) all_written) (ap (λ (q : PassView). q.view.refused) all_written) (ap (λ (q : PassView). q.tally) all_written)
+
       pub refusals_written : (r : Refusals) → AreRefusals r one.view → AreRefusals r three.view
       refusals_written r are = subst (λ (q : PassView). AreRefusals r q.view) (sym all_written) (record { count = are.count; last = are.last })
 
@@ -387,6 +401,9 @@ module _ (F : Fixed) (e : Effect) (place : ℕ) (nodes : List ℕ) (old at new :
         place_is = seen;
         small = small;
       }
+
+  pub written_none_refused : NoTakeWasRefused old at → NoTakeWasRefused old new
+  written_none_refused none = none_refused_still old at new none (ap (λ (p : PassView). p.view.refusals) second) (ap (λ (p : PassView). p.view.refused) second) (ap (λ (p : PassView). p.tally) second)
 
   pub written_refusals : (r : Refusals) → AreRefusals r at.view → AreRefusals r new.view
   written_refusals r are = record {

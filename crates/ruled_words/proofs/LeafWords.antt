@@ -14,7 +14,7 @@ use Rattle.core_steps.specs.Held.{leaf_word, bits_of_leaves}
 use Rattle.core_seats.proofs.ReadLists.{bits_more}
 use Rattle.world_tree.proofs.Rounds.{range-more}
 
-range_end : (n : ℕ) → range_with_len 0 (suc n) ≡ range_with_len 0 n ++ n ∷ []
+pub range_end : (n : ℕ) → range_with_len 0 (suc n) ≡ range_with_len 0 n ++ n ∷ []
 range_end n = let same : 0 + n ≡ n = omega arith in range-more 0 n ∙ ap (λ (k : ℕ). range_with_len 0 n ++ k ∷ []) same
 
 one_bit : (test : ℕ → Bool) (n : ℕ) → bits_of_leaves (filter test (n ∷ [])) ≡ (if test n then 2 ^ n else 0)

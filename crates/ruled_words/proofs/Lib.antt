@@ -25,9 +25,11 @@ pub mod BitWalks
 pub mod PlainHands
 pub mod StoresMade
 pub mod GivenBack
+pub mod GivingUp
 pub mod Claims
 pub mod LoadedWords
 pub mod TriedTakes
+pub mod RefusedTakes
 pub mod Visited
 pub mod VisitedNodes
 pub mod StateSteps
@@ -37,6 +39,9 @@ pub mod Gives
 pub mod Seating
 pub mod Readings
 pub mod Closing
+pub mod NewPasses
+pub mod Relinking
+pub mod RunWorlds
 pub mod Starting
 pub mod Worlds
 pub mod StartLinks

@@ -1,8 +1,12 @@
 -- A take that may be refused, and is tried again.
-use Rattle.std.proofs.Common.{◌≡◌, ◌≢◌, ℕ, suc, ◌+◌, ◌-◌, ◌*◌, ◌^◌, ◌<◌, arith, Bool, true, false, if◌then◌else◌, List, [], ◌∷◌, ◌++◌, length, map, min, refl, sym, ap, ◌∙◌, subst, inl, inr, Option, Some, None}
-use Rattle.std.specs.Prelude.{◌==◌}
-use Rattle.std.proofs.lemmas.Bool.{cases_eq, cond-true, cond-false, eq-eqb, ne_eqb, le-leb}
-use Rattle.std.proofs.lemmas.List.{append_assoc, length-append}
+use Rattle.std.proofs.Common.{◌≡◌, ◌≢◌, ℕ, suc, ◌+◌, ◌-◌, ◌*◌, ◌^◌, ◌<◌, ◌≤◌, zero, arith, Bool, true, false, if◌then◌else◌, List, [], ◌∷◌, ◌++◌, length, map, take, min, refl, sym, ap, ◌∙◌, subst, inl, inr, Option, Some, None}
+use Rattle.std.specs.Prelude.{◌==◌, filter}
+use Rattle.std.specs.List.{range_with_len}
+use Rattle.std.proofs.lemmas.Bool.{cases_Bool, cases_eq, cond-true, cond-false, eq-eqb, ne_eqb, le-leb}
+use Rattle.std.proofs.lemmas.List.{append_assoc, length-append, length-map}
+use Rattle.std.proofs.lemmas.List.Elements.{filter-append}
+use Rattle.std.proofs.Math.Seq.{take-append_seam}
+use Rattle.areanode.specs.Words.{has_bit}
 use Rattle.std.proofs.lemmas.Option.{same_Some}
 use Rattle.core_steps.specs.declared.sizes.TheConstants.{NODE_HOLDERS}
 use Rattle.atomic_table.specs.Seated.{TableId}
@@ -26,9 +30,11 @@ use Rattle.ruled_words.specs.Hands.{IsPlain}
 use Rattle.ruled_words.specs.Passes.{PassView, next_of_pass, node_taken_next, pass_after, word_after, AreCounted, IsPassOf}
 use Rattle.ruled_words.specs.Sights.{HeldWord, Tally, tally_after}
 use Rattle.ruled_words.specs.Straight.{in_view_with, HasMoreInFront, IsTriedOn, got_at}
+use Rattle.ruled_words.specs.GivingUp.{NoTakeWasRefused, IsSameCommand}
 use Rattle.ruled_words.specs.Tries.{IsTried, tried_until}
 use Rattle.ruled_words.proofs.BitWalks.{bits_in, bits_none}
-use Rattle.ruled_words.proofs.LeafWords.{leaf_word_is, leaves_small}
+use Rattle.ruled_words.proofs.GivingUp.{same_command}
+use Rattle.ruled_words.proofs.LeafWords.{range_end, leaf_word_is, leaves_few, leaves_small}
 use Rattle.ruled_words.proofs.LoadedWords.{plain_is, plain_after, plain_next}
 
 -- ---- the refused takes that are listed
@@ -104,7 +110,7 @@ served_keeps F r view (YieldNode n) node e is = cc
 served_keeps F r view YieldCount node e is = cc
 
 -- the view after a take that is refused
-refused_is : (F : Fixed) (view : View) (next : Next) (node found : ℕ) → node_taken next ≡ Some node → found ≢ 0 → view_found F view next found ≡ view_after_refusal node found view
+pub refused_is : (F : Fixed) (view : View) (next : Next) (node found : ℕ) → node_taken next ≡ Some node → found ≢ 0 → view_found F view next found ≡ view_after_refusal node found view
 refused_is F view (Begin c) node found e busy = cc
 refused_is F view LoadOwn node found e busy = cc
 refused_is F view LoadAgain node found e busy = cc
@@ -256,6 +262,29 @@ start_point : (q : Point) (nodes : List ℕ) → q ≡ Taking [] nodes → 0 < l
 start_point q [] at some = absurd (omega (arith, some))
 start_point q (x ∷ xs) at some = at ∙ ap (λ (g : List ℕ). taking g (x ∷ xs)) (sym (ap got_at at))
 
+-- no more than the tree has
+bits_few : (n word : ℕ) → length (bits_in n word) ≤ n
+bits_few zero word = omega arith
+bits_few (suc n) word =
+    let rest = bits_few n word in
+    let all : length (bits_in (suc n) word) ≡ length (bits_in n word) + length (filter (has_bit word) (n ∷ [])) =
+    ap (λ (xs : List ℕ). length (filter (has_bit word) xs)) (range_end n) ∙ ap (λ (xs : List ℕ). length xs) (filter-append (has_bit word) (range_with_len 0 n) (n ∷ []))
+    ∙ length-append (bits_in n word) (filter (has_bit word) (n ∷ [])) in
+    let one = one_few (has_bit word) n in
+    omega (arith, rest, all, one)
+  where
+    one_few : (test : ℕ → Bool) (k : ℕ) → length (filter test (k ∷ [])) ≤ 1
+    one_few test k = elim (cases_Bool (test k)) [ inl e ↦ rw e (omega arith) | inr e ↦ rw e (omega arith) ]
+
+leaf_list_few : (F : Fixed) (leaves : ℕ) → length (leaf_list F leaves) ≤ 2 ^ F.tree.depth
+leaf_list_few F leaves =
+    let few = bits_few (2 ^ F.tree.depth) leaves in
+    let same = length-map (bits_in (2 ^ F.tree.depth) leaves) (leaf_node F.tree.depth) in
+    omega (arith, few, same)
+
+pub none_taken : (n m : ℕ) → n ≡ m → 0 + n ≡ m
+none_taken n m same = omega (arith, same)
+
 -- what is known where the leaves of a command are to be taken
 pub record WantsLeaves (F : Fixed) (p : PassView) (leaves : ℕ) : Type 0 where
   pub depth : IsTreeDepth F.tree.depth
@@ -294,6 +323,53 @@ module _ (F : Fixed) (p : PassView) (leaves : ℕ) (plain : IsPlain p) (wants : 
   module _ (rest after leaf node : ℕ) (first : bits_in (2 ^ F.tree.depth) rest ≡ leaf ∷ bits_in (2 ^ F.tree.depth) after) (there : node ≡ leaf_node F.tree.depth leaf) (now : PassView) (is : now ≡ left_until F p rest now) where
     at_leaf : now ≡ tried_until p (Taking (got_at now.view.point) (node ∷ leaf_list F after)) now
     at_leaf = is ∙ ap (λ (xs : List ℕ). tried_until p (taking (got_at now.view.point) xs) now) (leaf_list_first F rest after leaf node first there)
+
+    -- as many leaves are taken as come before this one
+    module _ (passes : ℕ) (table : TableId) (taken : ℕ) (own : IsPassOf F passes table now) (so_many : taken + length (leaf_list F rest) ≡ length (leaf_list F leaves)) where
+      at_point_leaf : now.view.point ≡ Taking (got_at now.view.point) (node ∷ leaf_list F after)
+      at_point_leaf = ap (λ (q : PassView). q.view.point) at_leaf
+
+      is_taking_leaf : IsTaking (got_at now.view.point) (node ∷ leaf_list F after) now.view.wanted
+      is_taking_leaf = subst (λ (q : Point). IsAt F now.view.cmd now.view.own now.view.wanted now.view.again now.view.lists now.view.others now.view.states now.view.effect q) at_point_leaf own.sound_sight.sound.at
+
+      same_wanted : now.view.wanted ≡ leaf_list F leaves
+      same_wanted = ap (λ (q : PassView). q.view.wanted) at_leaf ∙ wants.wanted
+
+      so_many_got : taken ≡ length (got_at now.view.point)
+      so_many_got =
+          let whole : length (leaf_list F leaves) ≡ length (got_at now.view.point) + length (node ∷ leaf_list F after) =
+          ap (λ (xs : List ℕ). length xs) (sym (is_taking_leaf.all ∙ same_wanted)) ∙ length-append (got_at now.view.point) (node ∷ leaf_list F after) in
+          let left = ap (λ (xs : List ℕ). length xs) (leaf_list_first F rest after leaf node first there) in
+          omega (arith, whole, left, so_many)
+
+      pub leaf_at : now.view.point ≡ Taking (got_at now.view.point) (node ∷ leaf_list F after)
+      leaf_at = at_point_leaf
+
+      pub leaves_taken : take taken now.view.wanted ≡ got_at now.view.point
+      leaves_taken =
+          ap (take taken) (sym is_taking_leaf.all) ∙ ap (λ (n : ℕ). take n (got_at now.view.point ++ node ∷ leaf_list F after)) so_many_got
+          ∙ take-append_seam (got_at now.view.point) (node ∷ leaf_list F after)
+
+      pub leaves_enough : taken ≤ length now.view.wanted
+      leaves_enough =
+          let whole : length now.view.wanted ≡ length (got_at now.view.point) + length (node ∷ leaf_list F after) =
+          ap (λ (xs : List ℕ). length xs) (sym is_taking_leaf.all) ∙ length-append (got_at now.view.point) (node ∷ leaf_list F after) in
+          let many = so_many_got in
+          omega (arith, whole, many)
+
+      pub one_more_taken : taken + 1 + length (leaf_list F after) ≡ length (leaf_list F leaves)
+      one_more_taken = let left = ap (λ (xs : List ℕ). length xs) (leaf_list_first F rest after leaf node first there) in omega (arith, left, so_many)
+
+      pub few_taken : taken + 1 ≤ 64
+      few_taken =
+          let more = one_more_taken in
+          let few = leaf_list_few F leaves in
+          let most = leaves_few F wants.depth in
+          omega (arith, more, few, most)
+
+    -- no other command is in hand
+    pub leaf_same : NoTakeWasRefused p now → now.tally.begun ≡ p.tally.begun → IsSameCommand p now
+    leaf_same none begun = same_command p now (record p.view { point = Taking (got_at now.view.point) (node ∷ leaf_list F after) }) at_leaf none begun refl refl refl refl
 
     pub leaf_comes : next_of_pass F now ≡ Some (TakeNode node)
     leaf_comes = ap (λ (q : PassView). next_of_pass F q) at_leaf

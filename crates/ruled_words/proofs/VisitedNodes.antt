@@ -22,11 +22,15 @@ use Rattle.ruled_words.specs.Hands.{IsPlain}
 use Rattle.ruled_words.specs.Passes.{PassView, next_of_pass, pass_after, node_given_next, word_after}
 use Rattle.ruled_words.specs.Straight.{AreHeldFor, in_view, in_view_with, HasKept, nodes_read}
 use Rattle.ruled_words.specs.declared.held.Held.{Held}
+use Rattle.ruled_words.specs.GivingUp.{NoTakeWasRefused, IsSameCommand}
 use Rattle.ruled_words.specs.Tries.{tried_until}
+use Rattle.ruled_words.specs.Writing.{as_tried}
 use Rattle.ruled_words.specs.Visits.{plan_left, read_until, under_until, visited_until}
 use Rattle.ruled_words.proofs.EitherBits.{either_bits}
 use Rattle.ruled_words.proofs.BitWalks.{bits_in, bits_none, bits_low}
 use Rattle.ruled_words.proofs.LoadedWords.{plain_is, plain_after, plain_next, visiting_same}
+use Rattle.ruled_words.proofs.GivingUp.{same_command}
+use Rattle.ruled_words.proofs.RefusedTakes.{none_refused_still}
 use Rattle.ruled_words.proofs.TriedTakes.{leaf_list, leaf_list_first, leaf_there}
 use Rattle.ruled_words.proofs.Visited.{kept_same, no_bit}
 
@@ -186,6 +190,11 @@ module _ (F : Fixed) (p : PassView) (node : ℕ) (below : node < inner_nodes F) 
         pub inner_tally : three.tally ≡ one.tally
         inner_tally = ap (λ (q : PassView). q.tally) left ∙ ap (λ (q : PassView). q.tally) read
 
+        pub inner_none_refused : NoTakeWasRefused p one → NoTakeWasRefused p three
+        inner_none_refused none =
+            none_refused_still p one three none (ap (λ (q : PassView). q.view.refusals) left ∙ ap (λ (q : PassView). q.view.refusals) read)
+            (ap (λ (q : PassView). q.view.refused) left ∙ ap (λ (q : PassView). q.view.refused) read) inner_tally
+
         pub inner_refusals : (r : Refusals) → AreRefusals r one.view → AreRefusals r three.view
         inner_refusals r here = record {
           count = here.count ∙ sym (ap (λ (q : PassView). q.view.refusals) left ∙ ap (λ (q : PassView). q.view.refusals) read);
@@ -226,6 +235,10 @@ module _ (F : Fixed) (p : PassView) where
         is ∙ ap (λ (xs : List ℕ). visited_until p (visiting F p.view xs) now) first
         ∙ ap (λ (q : Point). visited_until p q now) (cond-false (is_leaf F node) (Entered node (bits_in (inner_nodes F) after)) (Entering node (bits_in (inner_nodes F) after)) (inner_there F node below))
 
+    -- no other command is in hand
+    pub inner_same : NoTakeWasRefused p now → now.tally.begun ≡ p.tally.begun → IsSameCommand p now
+    inner_same none begun = same_command p now (record p.view { point = visiting F p.view (bits_in (inner_nodes F) rest); lists = now.view.lists; others = now.view.others }) is none begun refl refl refl refl
+
     pub now_entering : now.view.point ≡ Entering node (plan_left now.view.point)
     now_entering = entering_is now.view.point node (bits_in (inner_nodes F) after) (ap (λ (q : PassView). q.view.point) at_inner)
 
@@ -248,6 +261,20 @@ module _ (F : Fixed) (p : PassView) (one : PassView) (outer : one ≡ read_until
       ap (λ (q : PassView). q.view.point) outer
       ∙ sym (visiting_same F one.view p.view (inner_visited F (region_in F p.view.cmd p.view.own)) (ap (λ (q : PassView). q.view.cmd) outer) (ap (λ (q : PassView). q.view.own) outer))
       ∙ sym (ap (λ (q : PassView). visiting F one.view (inner_visited F (region_in F q.view.cmd q.view.own))) outer)
+
+  -- no other command is in hand, and no take was refused
+  pub read_none_refused : NoTakeWasRefused p one
+  read_none_refused = record {
+    refusals = ap (λ (q : PassView). q.view.refusals) outer;
+    refused = ap (λ (q : PassView). q.view.refused) outer;
+    listed = ap (λ (q : PassView). q.tally.refused) outer;
+  }
+
+  pub read_same : IsSameCommand p one
+  read_same =
+      same_command p one (record p.view { point = one.view.point; lists = one.view.lists; others = one.view.others })
+      (subst (λ (q : PassView). q ≡ in_view_with p (as_tried (record p.view { point = q.view.point; lists = q.view.lists; others = q.view.others }) q.view) q.tally) (sym outer) refl)
+      read_none_refused (ap (λ (q : PassView). q.tally.begun) outer) refl refl refl refl
 
   pub read_refusals : (r : Refusals) → AreRefusals r p.view → AreRefusals r one.view
   read_refusals r here = record {

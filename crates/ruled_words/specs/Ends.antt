@@ -1,12 +1,14 @@
 -- What is read of a table at its end.
-use Rattle.std.specs.Prelude.{◌≡◌, ℕ, ◌<◌, ◌==◌, nat_lt, true, if◌then◌else◌, List, [], ◌∷◌, map, slice_index}
+use Rattle.std.specs.Prelude.{◌≡◌, ℕ, ◌<◌, ◌==◌, nat_lt, true, if◌then◌else◌, List, [], ◌∷◌, map, slice_index, All}
 use Rattle.std.specs.List.Sorted.{IsPermutation, IsStrictlyIncreasing}
 use Rattle.entity_recs.specs.declared.limits.TheConstants.{IDS}
 use Rattle.entity_recs.specs.declared.rec.Rec.{Rec}
 use Rattle.entity_recs.specs.Records.{with_state}
 use Rattle.entity_recs.specs.Worlds.{World}
 use Rattle.entity_recs.specs.Histories.{Item, run, IsLegal, places_of}
-use Rattle.world_tree.specs.Live.{IsEntry}
+use Rattle.move_journal.specs.Lists.{IsWorldOf}
+use Rattle.world_tree.specs.Live.{live_in, IsEntry}
+use Rattle.world_tree.specs.Worlds.{WorldView}
 use Rattle.core_steps.specs.Cells.{Body, State, cell_index}
 use Rattle.core_steps.specs.Encoding.{record_from}
 use Rattle.core_steps.specs.Nodes.{Fixed, has}
@@ -64,3 +66,13 @@ pub record Closes (F : Fixed) (words : List ℕ) (view : View) : Type 0 where
   pub entry : (id : ℕ) → has F.start.ids id ≡ true → IsEntry id (now.record_of id)
   pub taken : (id : ℕ) → has F.start.ids id ≡ true → F.takes (now.record_of id) ≡ true
   pub read : (id : ℕ) → has F.start.ids id ≡ true → record_in words (F.start.record_of id) ≡ now.record_of id
+
+-- the items of all logs are those of a legal history, in each log the places rise, and the live records of the world are
+-- those of the history's run, which the action takes
+pub record ClosesInto (F : Fixed) (world : WorldView) (view : View) : Type 0 where
+  pub history : List Item
+  pub legal : IsLegal F.effect_of F.start history
+  pub items : IsPermutation history (logs_in view)
+  pub rising : (n : ℕ) → n < view.made → IsStrictlyIncreasing (places_of (log_in view n))
+  pub run_is : IsWorldOf (run F.effect_of F.start history) (live_in world.records)
+  pub taken : All (λ (r : Rec). F.takes r ≡ true) (live_in world.records)

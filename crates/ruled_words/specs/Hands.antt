@@ -1,15 +1,13 @@
--- How a pass is held: its seat at the table, its hand, beside the same seat in plain values.
-use Rattle.std.specs.Prelude.{◌≡◌, ℕ, suc, false, [], length, Option, Some, None}
+-- How a pass is held: its seat at the table, its hand.
+use Rattle.std.specs.Prelude.{◌≡◌, ℕ, suc, Bool, false, [], length, Option, Some, None}
 use Rattle.areanode.specs.Trees.{IsTreeDepth}
 use Rattle.atomic_table.specs.Seated.{TableId}
 use Rattle.atomic_table.specs.declared.shared.Seat as places
 use Rattle.entity_recs.specs.Actions.{Meaning}
 use Rattle.entity_recs.specs.declared.effect.Effect.{Effect}
-use Rattle.core_seats.specs.declared.seat.Seat.{Seat}
 use Rattle.entity_recs.specs.Commands.{Command}
 use Rattle.core_steps.specs.Nodes.{Fixed}
 use Rattle.core_steps.specs.Steps.{view_after_begin}
-use Rattle.core_seats.specs.Seats.{view_of, given_of}
 use Rattle.ruled_words.specs.Sights.{SightView}
 use Rattle.ruled_words.specs.declared.setting.Setting.{Setting}
 use Rattle.ruled_words.specs.Passes.{PassView, TableView, IsPassOf, effect_kept, fixed_in}
@@ -72,11 +70,6 @@ begun_with c word p = record p {
   tally = record p.tally { begun = suc p.tally.begun };
 }
 
--- the pass of this hand, with the same seat in plain values and the effect that is kept
-abbrev pub pass_view : PassView → Seat → Option Effect → PassView
-pass_view hand mirror effect = record hand {
-  given = given_of mirror;
-  quits = mirror.quits;
-  effect = effect;
-  view = view_of mirror;
-}
+-- the pass of this hand, where this command was given and isn't begun, it is to give up or not, and this effect is kept
+abbrev pub pass_beside : PassView → Option Command → Bool → Option Effect → PassView
+pass_beside hand given quits effect = record hand { given = given; quits = quits; effect = effect }

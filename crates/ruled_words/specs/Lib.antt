@@ -9,9 +9,11 @@ pub mod WordSteps
 pub mod Plays
 pub mod Passes
 pub mod Hands
+pub mod NewPasses
 pub mod Loads
 pub mod Straight
 pub mod Tries
+pub mod GivingUp
 pub mod Visits
 pub mod Sensing
 pub mod Writing

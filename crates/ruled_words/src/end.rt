@@ -6,14 +6,19 @@ ghost use Rattle.core_steps.specs.Stands.{IsStart};
 ghost use Rattle.ruled_words.specs.Going.{IsAtRest};
 ghost use Rattle.ruled_words.specs.Passes.{fixed_in, sight_of};
 ghost use Rattle.ruled_words.specs.Sights.{AreRefusalsServed, with_one_ended};
-ghost use Rattle.ruled_words.specs.Ends.{AreEndedBelow, Closes};
+ghost use Rattle.ruled_words.specs.Ends.{AreEndedBelow, Closes, ClosesInto};
+ghost use Rattle.world_tree.specs.Worlds.{IsLinked};
 
 use crate::hand::Hand;
 use crate::shared_words::SharedWords;
 use atomic_table::Closed;
 use core_steps::TABLE_WORDS;
 use entity_recs::Action;
+use records::relink_all;
 use std::alloc::Global;
+use world_tree::World;
+
+mod records;
 
 /// The words of a closed table, whose memory is given back.
 fn words_of(closed: Closed<(), Global>) -> [u64; TABLE_WORDS]
@@ -41,9 +46,28 @@ impl<'a, A: Action> SharedWords<'a, A> {
         first.end(&self.table.shared, other);
     }
 
+    // The words are copied into an array and the table is freed before any record is read, so the functions on
+    // records see plain words.
+    /// Closes the table, of which all other seats were ended into the first one's, and makes the records of the world that
+    /// the table began with those of its words. It takes no memory.
+    pub fn close_into(self, first: Hand, world: &mut World)
+        requires table { first.table ≡ self.table }
+        requires rests { IsAtRest first.view }
+        requires first { first.number ≡ 0 }
+        requires ended { AreEndedBelow (length self.rooms) first.view }
+        requires world { world.old ≡ self.world }
+        ensures closes { ClosesInto (fixed_in A.meaning self.entry) world.new first.view }
+        ensures refusals { AreRefusalsServed first.tally }
+        ensures made { first.view.made ≡ length self.entry.rooms }
+        ensures tree { world.new.tree ≡ world.old.tree }
+        ensures linked { IsLinked world.new }
+    {
+        relink_all(&self.close(first), world);
+    }
+
     /// Closes the table, of which all other seats were ended into the first one's, and gives its words. It takes no
     /// memory.
-    pub fn close(self, first: Hand) -> [u64; TABLE_WORDS]
+    fn close(self, first: Hand) -> [u64; TABLE_WORDS]
         requires table { first.table ≡ self.table }
         requires rests { IsAtRest first.view }
         requires first { first.number ≡ 0 }

@@ -1,4 +1,5 @@
 ghost use Rattle.std.specs.Prelude.{◌≡◌, ◌<◌, ◌≤◌, ℕ, [], length};
+ghost use Rattle.std.specs.Option.{option_map};
 ghost use Rattle.areanode.specs.Trees.{IsTreeDepth};
 ghost use Rattle.core_steps.specs.declared.sizes.TheConstants.{TABLE_WORDS};
 ghost use Rattle.core_seats.specs.Nexts.{the_next};
@@ -8,7 +9,8 @@ ghost use Rattle.ruled_words.specs.Sights.{with_one_made, sight_made, with_one_e
 ghost use Rattle.ruled_words.specs.Plays.{IsSoundSight};
 ghost use Rattle.ruled_words.specs.Passes.{sight_of, next_of_pass, word_after, IsReady, HasGone};
 ghost use Rattle.ruled_words.specs.WordSteps.{word_by, MayBe};
-ghost use Rattle.ruled_words.specs.Hands.{IsPlain, given_to, pass_keeping, pass_view, plain_pass};
+ghost use Rattle.ruled_words.specs.GivingUp.{quitting_pass};
+ghost use Rattle.ruled_words.specs.Hands.{IsPlain, given_to, pass_beside, pass_keeping, plain_pass};
 ghost use Rattle.entity_recs.specs.Commands.{command_of};
 
 use crate::rule::key::{TableSeat, Words};
@@ -16,7 +18,6 @@ use crate::setting::Setting;
 use crate::steps::one_step::step_as;
 use crate::steps::seats::{end, look, make};
 use crate::word_step::WordStep;
-use core_seats::Seat;
 use entity_recs::{Action, Cmd, Effect};
 use std::marker::{Brand, Model};
 
@@ -63,32 +64,33 @@ impl Hand {
         self.setting
     }
 
-    /// The hand makes the next step of its pass, which is the hand with this seat in plain values and the effect that is
-    /// kept, and gives the word that was found.
+    /// The hand makes the next step of its pass, where this command was given and isn't begun, it is to give up or not,
+    /// and this effect is kept. It gives the word that was found.
     pub(crate) fn step_beside<A: Action>(
         &mut self,
         words: &Words<A>,
-        mirror: &Seat,
+        given: &Option<Cmd>,
+        quits: bool,
         effect: &Option<Effect>,
         word: usize,
         step: WordStep,
     ) -> u64
         requires ready { IsReady (fixed_by A.meaning words.now.key.action.value words.now.key.world.value)
-            (length words.now.key.rooms.items) words.now.table_id (pass_view self.old mirror.now effect.now)
+            (length words.now.key.rooms.items) words.now.table_id (pass_beside self.old (option_map command_of given.now) quits effect.now)
             self.old word }
         requires wide { words.now.table_id.words ≡ TABLE_WORDS }
         requires left { (found : ℕ) → word_after (fixed_by A.meaning words.now.key.action.value
-            words.now.key.world.value) (pass_view self.old mirror.now effect.now) found ≡ word_by step found }
+            words.now.key.world.value) (pass_beside self.old (option_map command_of given.now) quits effect.now) found ≡ word_by step found }
         requires may { let F = fixed_by A.meaning words.now.key.action.value words.now.key.world.value in
-            let p = pass_view self.old mirror.now effect.now in
+            let p = pass_beside self.old (option_map command_of given.now) quits effect.now in
             MayBe step F p.view (the_next (next_of_pass F p)) word }
         ensures gone { HasGone (fixed_by A.meaning words.now.key.action.value words.now.key.world.value)
-            (length words.now.key.rooms.items) (pass_view self.old mirror.now effect.now) result self.new }
+            (length words.now.key.rooms.items) (pass_beside self.old (option_map command_of given.now) quits effect.now) result self.new }
         ensures stored { (new : ℕ) → step ≡ WordStep.Store new → result ≡ new }
     {
-        step_as::<A, Brand, (&Seat, &Option<Effect>)>(
+        step_as::<A, Brand, (&Option<Cmd>, bool, &Option<Effect>)>(
             words,
-            &(mirror, effect),
+            &(given, quits, effect),
             &mut self.place,
             word,
             step,
@@ -154,6 +156,29 @@ impl Hand {
         step_as::<A, Brand, Effect>(words, effect, &mut self.place, word, step)
     }
 
+    /// The hand makes the step that comes next where giving up begins with it, or doesn't.
+    pub(crate) fn yield_on<A: Action>(
+        &mut self,
+        words: &Words<A>,
+        begins: bool,
+        word: usize,
+        step: WordStep,
+    ) -> u64
+        requires ready { IsReady (fixed_by A.meaning words.now.key.action.value words.now.key.world.value)
+            (length words.now.key.rooms.items) words.now.table_id (quitting_pass self.old begins) self.old word }
+        requires wide { words.now.table_id.words ≡ TABLE_WORDS }
+        requires left { (found : ℕ) → word_after (fixed_by A.meaning words.now.key.action.value
+            words.now.key.world.value) (quitting_pass self.old begins) found ≡ word_by step found }
+        requires may { let F = fixed_by A.meaning words.now.key.action.value words.now.key.world.value in
+            MayBe step F self.old.view (the_next (next_of_pass F (quitting_pass self.old begins))) word }
+        ensures gone { HasGone (fixed_by A.meaning words.now.key.action.value words.now.key.world.value)
+            (length words.now.key.rooms.items) (quitting_pass self.old begins) result self.new }
+        ensures plain { IsPlain self.old × IsPlain self.new }
+        ensures stored { (new : ℕ) → step ≡ WordStep.Store new → result ≡ new }
+    {
+        step_as::<A, Brand, bool>(words, &begins, &mut self.place, word, step)
+    }
+
     /// The hand looks at the count of commits, with no command in hand.
     pub(crate) fn look_on<A: Action>(&mut self, words: &Words<A>) -> u64
         requires table { (self.old.table ≡ words.now.table_id) × (words.now.table_id.words ≡ TABLE_WORDS) }
@@ -177,6 +202,7 @@ impl Hand {
         ensures setting { (self.new.setting ≡ self.old.setting) × (result.setting ≡ self.old.setting) }
         ensures first { sight_of self.new ≡ with_one_made (sight_of self.old) }
         ensures made { sight_of result ≡ sight_made room (sight_of self.old) }
+        ensures plain { IsPlain self.new × IsPlain result }
     {
         let place = make(words, &mut self.place, room);
         let setting = self.setting;

@@ -3,6 +3,7 @@
 
 pub use hand::Hand;
 pub use held::Held;
+pub use patience::{AtOnce, GivenUp, Patience, Waiting};
 pub use reading::index_of_word;
 pub use rule::laws::{
     closed_table_is_its_run, ended_seats_keep_the_rule, held_words_name_their_holder,
@@ -18,6 +19,7 @@ mod hand;
 mod held;
 mod nodes;
 mod opening;
+mod patience;
 mod reading;
 mod rule;
 mod setting;

@@ -1,4 +1,5 @@
-ghost use Rattle.std.specs.Prelude.{◌≡◌, ◌<◌, ◌≤◌, true, [], length, slice_index, All, IfOk, IfSome, OnOk};
+ghost use Rattle.std.specs.Prelude.{◌≡◌, ◌-◌, ◌<◌, ◌≤◌, true, [], map, length, slice_index, All, IfOk, IfSome, OnOk};
+ghost use Rattle.std.specs.List.{range_with_len};
 ghost use Rattle.core_steps.specs.declared.sizes.TheConstants.{TABLE_WORDS};
 ghost use Rattle.core_steps.specs.Stands.{IsStart};
 ghost use Rattle.world_tree.specs.Live.{live_in};
@@ -9,8 +10,10 @@ ghost use Rattle.ruled_words.specs.Rule.{first_sight};
 ghost use Rattle.ruled_words.specs.Going.{IsAtRest};
 ghost use Rattle.areanode.specs.Trees.{IsTreeDepth};
 ghost use Rattle.core_seats.specs.Shown.{fixed_of};
-ghost use Rattle.ruled_words.specs.Passes.{fixed_in, setting_of, sight_of};
-ghost use Rattle.ruled_words.specs.Sights.{with_one_made, sight_made};
+ghost use Rattle.ruled_words.specs.Hands.{IsPlain};
+ghost use Rattle.ruled_words.specs.NewPasses.{new_passes, other_pass, view_with_made};
+ghost use Rattle.ruled_words.specs.Passes.{fixed_in, setting_of, sight_of, IsOwn};
+ghost use Rattle.ruled_words.specs.Sights.{no_tally, with_one_made, sight_made};
 
 use crate::hand::Hand;
 use crate::rule::key::{Key, TableSeat};
@@ -115,9 +118,32 @@ fn lay_table<A: Action>(
 }
 
 impl<'a, A: Action> SharedWords<'a, A> {
+    /// The words of `world`, which is only read, under their rule, and a hand for each room, numbered from 0: the seats of
+    /// the others are made from that of the first.
+    pub fn open(
+        alloc: Global,
+        action: &'a A,
+        world: &World,
+        room: &[u32],
+    ) -> Result<(SharedWords<'a, A>, Vec<Hand>), AllocError>
+        requires rooms { (0 < length room.now) × (length room.now ≤ MOST_SEATS) }
+        requires taken { All (λ r. HasSmallNumbers r → (A.meaning action.now).takes r ≡ true)
+            (live_in world.now.records) }
+        ensures table { IfOk result (λ r. (r.0.action ≡ action.now) × (r.0.world ≡ world.now)
+            × (r.0.rooms ≡ room.now)) }
+        ensures hands { IfOk result (λ r. r.1.items ≡ new_passes r.0.table (setting_of (fixed_in A.meaning r.0)) room.now) }
+        ensures own { IfOk result (λ r. All (IsOwn A.meaning r.0) r.1.items) }
+        ensures linked { OnOk result (IsLinked world.now) }
+    {
+        let (words, mut first) = SharedWords::new(alloc, action, world, room)?;
+        let mut hands = words.make_others(alloc, &mut first, room)?;
+        hands.insert(0, first)?;
+        Ok((words, hands))
+    }
+
     /// The words of `world`, which is only read, under their rule, and the hand of seat 0: there is a room for each seat,
     /// and that of seat 0 is the first.
-    pub fn new(
+    fn new(
         alloc: Global,
         action: &'a A,
         world: &World,
@@ -131,6 +157,7 @@ impl<'a, A: Action> SharedWords<'a, A> {
         ensures first { IfOk result (λ r. (r.1.table ≡ r.0.table)
             × (sight_of r.1 ≡ first_sight (slice_index room.now 0))) }
         ensures setting { IfOk result (λ r. r.1.setting ≡ setting_of (fixed_in A.meaning r.0)) }
+        ensures plain { IfOk result (λ r. IsPlain r.1) }
         ensures linked { OnOk result (IsLinked world.now) }
     {
         let rules = rules_at_start(alloc, action, world)?;
@@ -145,7 +172,7 @@ impl<'a, A: Action> SharedWords<'a, A> {
     }
 
     /// The hand of the seat that is made next from seat 0, which rests, with this room.
-    pub fn make(&self, first: &mut Hand, number: u8, room: u32) -> Hand
+    fn make(&self, first: &mut Hand, number: u8, room: u32) -> Hand
         requires table { first.old.table ≡ self.now.table }
         requires rests { IsAtRest first.old.view }
         requires first { first.old.number ≡ 0 }
@@ -155,7 +182,40 @@ impl<'a, A: Action> SharedWords<'a, A> {
         ensures setting { (first.new.setting ≡ first.old.setting) × (result.setting ≡ first.old.setting) }
         ensures first { sight_of first.new ≡ with_one_made (sight_of first.old) }
         ensures made { sight_of result ≡ sight_made room (sight_of first.old) }
+        ensures plain { IsPlain first.new × IsPlain result }
     {
         first.make(&self.table.shared, number, room)
+    }
+
+    /// Makes a seat for each room but the first, from seat 0.
+    fn make_others(
+        &self,
+        alloc: Global,
+        first: &mut Hand,
+        room: &[u32],
+    ) -> Result<Vec<Hand>, AllocError>
+        requires table { first.old.table ≡ self.now.table }
+        requires rooms { (self.now.rooms ≡ room.now) × (0 < length room.now) × (length room.now ≤ MOST_SEATS) }
+        requires first { sight_of first.old ≡ first_sight (slice_index room.now 0) }
+        requires setting { first.old.setting ≡ setting_of (fixed_in A.meaning self.now) }
+        requires plain { IsPlain first.old }
+        ensures hands { IfOk result (λ v. v.items
+            ≡ map (other_pass self.now.table (setting_of (fixed_in A.meaning self.now)) room.now)
+            (range_with_len 1 (length room.now - 1))) }
+        ensures first { OnOk result
+            (sight_of first.new ≡ record {
+              number = 0;
+              view = view_with_made (slice_index room.now 0) (length room.now);
+              tally = no_tally;
+            }) }
+        ensures table { first.new.table ≡ first.old.table }
+        ensures setting { first.new.setting ≡ first.old.setting }
+        ensures plain { IsPlain first.new }
+    {
+        let mut hands = Vec::with_capacity(alloc, room.len())?;
+        for i in 1..room.len() {
+            hands.push(self.make(first, i as u8, room[i]))?;
+        }
+        Ok(hands)
     }
 }

@@ -1,9 +1,10 @@
-ghost use Rattle.std.specs.Prelude.{◌≡◌};
+ghost use Rattle.std.specs.Prelude.{◌≡◌, false, length, IfOk, OnOk, OnErr};
 ghost use Rattle.entity_recs.specs.Records.{IsRecord};
 ghost use Rattle.core_steps.specs.Nodes.{home, inner_of_two};
 ghost use Rattle.core_steps.specs.Points.{Resolving};
 ghost use Rattle.core_steps.specs.Reads.{effect_loaded};
 ghost use Rattle.core_seats.specs.Refusals.{AreRefusals};
+ghost use Rattle.ruled_words.specs.GivingUp.{NoTakeWasRefused, HasGivenUp};
 ghost use Rattle.ruled_words.specs.Hands.{IsOwnHand};
 ghost use Rattle.ruled_words.specs.Passes.{fixed_in};
 ghost use Rattle.ruled_words.specs.Straight.{AreHeldFor};
@@ -11,10 +12,10 @@ ghost use Rattle.ruled_words.specs.Writing.{HasWritten};
 
 use crate::hand::Hand;
 use crate::held::Held;
+use crate::patience::{GivenUp, Patience};
 use crate::shared_words::SharedWords;
 use core_seats::{LoadedPlayer, NodeQueue, Refusals, read_record};
 use entity_recs::{Action, Effect, Rec};
-use std::sync::Wait;
 
 mod claiming;
 mod committing;
@@ -39,34 +40,38 @@ impl<'a, A: Action> SharedWords<'a, A> {
         self.rules.inner_of_two(old, new)
     }
 
-    /// Writes the effect of the command in hand, where all is read, and gives its place: the write nodes are taken, each
-    /// tried again until it is served, the command is committed, the stores are made, and the write nodes are given back.
-    /// `again` is the own record as it was loaded again.
-    pub fn write_effect<R: Wait>(
+    /// Writes the effect of the command in hand, where all is read, and gives its place: the write nodes are taken, the
+    /// command is committed, the stores are made, and the write nodes are given back. `again` is the own record as it was
+    /// loaded again. `Err` exactly where a take was refused and isn't tried again: the command is then given up.
+    pub fn write_effect<P: Patience>(
         &self,
-        rt: &R,
+        patience: &P,
         hand: &mut Hand,
         refusals: &mut Refusals,
         held: &Held,
         again: &LoadedPlayer,
         effect: &Effect,
-    ) -> u64
+    ) -> Result<u64, GivenUp>
         requires own { IsOwnHand A.meaning self.now hand.old }
         requires at { hand.old.view.point ≡ Resolving }
         requires effect { effect.now ≡ effect_loaded (fixed_in A.meaning self.now) hand.old.view }
         requires held { AreHeldFor (fixed_in A.meaning self.now) held.now hand.old.view }
         requires again_is { again.now ≡ hand.old.view.again }
         ensures own { IsOwnHand A.meaning self.now hand.new }
-        ensures written { HasWritten effect.now result hand.old hand.new }
+        ensures written { IfOk result (λ place. HasWritten effect.now place hand.old hand.new) }
+        ensures served { OnOk result (P.waits ≡ false → NoTakeWasRefused hand.old hand.new) }
+        ensures at_once { OnErr result (P.waits ≡ false) }
+        ensures given_up { OnErr result
+            (HasGivenUp (fixed_in A.meaning self.now) (length self.now.rooms) hand.old hand.new) }
         ensures refusals { AreRefusals refusals.old hand.old.view → AreRefusals refusals.new hand.new.view }
     {
         let (old, new) = self.homes(&read_record(held.slot, again), effect);
         let queue = self.write_nodes(old, new);
         let nodes = queue.as_slice();
-        self.take_write_nodes(rt, hand, refusals, held, effect, nodes);
+        self.take_write_nodes(patience, hand, refusals, held, effect, nodes)?;
         let place = self.commit_on(hand, effect, nodes);
         self.store_all(hand, held.slot, effect, old, new);
         self.release_nodes(hand, nodes);
-        place
+        Ok(place)
     }
 }

@@ -5,8 +5,7 @@ ghost use Rattle.trial_passes.specs.Trials.{IsFree};
 
 use core_trials::Staying;
 use entity_recs::{Action, Entry};
-use region_locks::Pass;
-use shared_moves::{Again, Gate, GatePoint, Moment, NoGate, Shared};
+use shared_moves::{Again, Gate, GatePoint, Moment, NoGate, Pass, Shared};
 use std::marker::Model;
 use std::sync::Mutex;
 use trial_passes::plain;

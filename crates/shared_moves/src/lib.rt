@@ -1,8 +1,21 @@
 //! Moves on threads: each worker runs its moves on the shared words, and what they did is a history.
 #![tactic(auto)]
 
-pub use region_locks::{Again, Gate, GatePoint, Moment, NoGate};
+pub use again::Again;
+pub use gate::{Gate, NoGate};
+pub use gate_point::GatePoint;
+pub use holder::{Holder, holder_in};
+pub use moment::Moment;
+pub use pass::{Pass, PassList};
 pub use shared::Shared;
+pub use walking::walk;
 
+mod again;
+mod gate;
+mod gate_point;
+mod holder;
+mod moment;
+mod pass;
 mod run;
 mod shared;
+mod walking;

@@ -1,13 +1,19 @@
 ghost use Rattle.std.specs.Prelude.{◌≡◌, ◌%◌, true, length, IfOk, IfErr, OnOk};
 ghost use Rattle.entity_recs.specs.Commands.{command_of};
 ghost use Rattle.core_steps.specs.Nodes.{has};
+ghost use Rattle.ruled_words.specs.GivingUp.{NoTakeWasRefused};
 ghost use Rattle.ruled_words.specs.Passes.{fixed_in, IsOwn};
-ghost use Rattle.region_locks.specs.Quitting.{MayBegin};
-ghost use Rattle.region_locks.specs.Moves.{HasRun, NoTakeWasRefused, WasNotRun};
+ghost use Rattle.shared_moves.specs.InHand.{MayBegin};
+ghost use Rattle.shared_moves.specs.Moves.{HasRun, WasNotRun};
 
+use crate::again::{Again, again_after};
+use crate::gate::Gate;
+use crate::pass::Pass;
 use crate::shared::Shared;
+use crate::walking::walk;
 use entity_recs::{Action, Cmd, Entry};
-use region_locks::{Again, Gate, Pass};
+use move_journal::same_entry;
+use ruled_words::{AtOnce, GivenUp, Waiting};
 use std::sync::Wait;
 
 impl<'a, A: Action> Shared<'a, A> {
@@ -21,7 +27,19 @@ impl<'a, A: Action> Shared<'a, A> {
         ensures { HasRun (fixed_in A.meaning self.now) (length self.now.rooms) self.now.table
             pass.old pass.new (command_of cmd) result }
     {
-        self.table.run(rt, pass, cmd, gate)
+        let walked = walk(
+            &self.words,
+            &Waiting { rt },
+            &mut pass.hand,
+            &mut pass.refusals,
+            &mut pass.near,
+            &cmd,
+            gate,
+        );
+        // A walk that waits isn't given up.
+        let entry = walked.unwrap();
+        pass.log.push(same_entry(&entry));
+        entry
     }
 
     /// Runs the command and gives its entry, without waiting: no take is refused. `Err` where a node that it takes was
@@ -38,6 +56,24 @@ impl<'a, A: Action> Shared<'a, A> {
         ensures err { IfErr result (λ a. WasNotRun (fixed_in A.meaning self.now)
             (length self.now.rooms) self.now.table pass.old pass.new (command_of cmd) a) }
     {
-        self.table.try_run(pass, cmd, gate)
+        match walk(
+            &self.words,
+            &AtOnce,
+            &mut pass.hand,
+            &mut pass.refusals,
+            &mut pass.near,
+            &cmd,
+            gate,
+        ) {
+            Ok(entry) => {
+                pass.log.push(same_entry(&entry));
+                Ok(entry)
+            }
+            Err(GivenUp) => {
+                // The refused take was noted.
+                let refused = pass.refusals.last.as_ref().unwrap();
+                Err(again_after(refused, self.words.first_leaf()))
+            }
+        }
     }
 }

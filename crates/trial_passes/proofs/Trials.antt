@@ -8,12 +8,12 @@ use Rattle.entity_recs.specs.Histories.{Item}
 use Rattle.core_steps.specs.Nodes.{Fixed}
 use Rattle.ruled_words.specs.Passes.{PassView, IsPassOf, setting_of}
 use Rattle.ruled_words.specs.declared.setting.Setting.{Setting}
-use Rattle.region_locks.specs.NewPasses.{first_pass, other_pass}
-use Rattle.region_locks.specs.Closing.{HasNoCommand}
+use Rattle.ruled_words.specs.NewPasses.{first_pass, other_pass}
+use Rattle.shared_moves.specs.Closing.{HasNoCommand}
 use Rattle.region_locks.specs.Quitting.{MayBegin}
 use Rattle.region_locks.specs.Turns.{has_command_in_hand}
-use Rattle.region_locks.specs.declared.again.Again.{Again}
-use Rattle.region_locks.specs.Moves.{HasRun, WasNotRun}
+use Rattle.shared_moves.specs.declared.again.Again.{Again}
+use Rattle.shared_moves.specs.Moves.{HasRun, WasNotRun}
 use Rattle.trial_passes.specs.Trials.{IsFree, IsMoving, IsResting}
 use Rattle.region_locks.proofs.Running.{without_command}
 

@@ -3,7 +3,7 @@ use Rattle.std.specs.Prelude.{◌≡◌, ℕ}
 use Rattle.atomic_table.specs.Seated.{TableId}
 use Rattle.core_steps.specs.Nodes.{Fixed}
 use Rattle.ruled_words.specs.Passes.{PassView, IsPassOf}
-use Rattle.region_locks.specs.Closing.{HasNoCommand}
+use Rattle.shared_moves.specs.Closing.{HasNoCommand}
 use Rattle.region_locks.specs.Quitting.{MayBegin}
 use Rattle.region_locks.specs.Pursuits.{IsGoingOn}
 

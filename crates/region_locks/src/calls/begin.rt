@@ -22,7 +22,7 @@ impl<'a, A: Action> NodeTable<'a, A> {
         ensures own { IsOwn A.meaning self.now pass.new }
         ensures pass { pass.new ≡ record pass.old { given = Some (command_of cmd) } }
     {
-        pass.mirror.given = Some(cmd);
+        pass.seat.given = Some(cmd);
     }
 
     /// The pass, which rests, loads the count.
@@ -35,7 +35,7 @@ impl<'a, A: Action> NodeTable<'a, A> {
             (sight_of pass.new) }
     {
         let seen = self.words.look_on(&mut pass.hand);
-        pass.mirror.seen = seen;
+        pass.seat.seen = seen;
         seen
     }
 

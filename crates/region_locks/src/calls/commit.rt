@@ -4,7 +4,7 @@ ghost use Rattle.ruled_words.specs.Passes.{first_effect, IsOwn, next_in, after_i
 ghost use Rattle.ruled_words.specs.Passes.{effect_in_hand};
 ghost use Rattle.region_locks.specs.NextCalls.{is_commit_next};
 
-use crate::mirror::owed::slot_and_seq;
+use crate::owed::slot_and_seq;
 use crate::pass::Pass;
 use crate::table::NodeTable;
 use arena_geo::Vec3;
@@ -47,8 +47,8 @@ impl<'a, A: Action> NodeTable<'a, A> {
         ensures entry { IsSomeAnd (effect_in_hand pass.old)
             (λ e. result ≡ entry_of result.place pass.old.view.cmd e) }
     {
-        let (slot, seq) = slot_and_seq(&pass.mirror);
-        let reply = reply_in_hand(&pass.effect, &pass.mirror.effect);
+        let (slot, seq) = slot_and_seq(&pass.seat);
+        let reply = reply_in_hand(&pass.effect, &pass.seat.effect);
         let place = self.step_word(pass, 0, WordStep::Count);
         Entry {
             place,

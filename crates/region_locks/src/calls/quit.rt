@@ -1,7 +1,8 @@
 ghost use Rattle.std.specs.Prelude.{◌≡◌, true, false, not, is_some};
 ghost use Rattle.core_steps.specs.Steps.{first_yield, is_taking};
 ghost use Rattle.ruled_words.specs.Passes.{fixed_in, IsOwn};
-ghost use Rattle.region_locks.specs.Quitting.{HasQuit, MayBegin, has_next_step, next_step};
+ghost use Rattle.shared_moves.specs.InHand.{MayBegin};
+ghost use Rattle.region_locks.specs.Quitting.{HasQuit, has_next_step, next_step};
 
 use crate::pass::Pass;
 use crate::table::NodeTable;
@@ -18,7 +19,7 @@ impl<'a, A: Action> NodeTable<'a, A> {
         ensures some { is_some result ≡ has_next_step pass.now }
     {
         let number = pass.number();
-        pass.mirror.next_step(self.rules(), number, &pass.effect)
+        pass.seat.next_step(self.rules(), number, &pass.effect)
     }
 
     /// Whether the pass holds no node.
@@ -26,7 +27,7 @@ impl<'a, A: Action> NodeTable<'a, A> {
         ensures { result ≡ not (is_some (first_yield (fixed_in A.meaning self.now)
             pass.now.view)) }
     {
-        pass.mirror.inner_held(self.rules()).is_empty() && pass.mirror.leaves_held().is_empty()
+        pass.seat.inner_held(self.rules()).is_empty() && pass.seat.leaves_held().is_empty()
     }
 
     /// Gives up the command in hand, as after a refused take. What the pass holds is to be given back next, inner nodes
@@ -42,7 +43,7 @@ impl<'a, A: Action> NodeTable<'a, A> {
             → MayBegin pass.new }
     {
         let holds_nothing = self.holds_nothing(pass);
-        pass.mirror.quits = true;
+        pass.seat.quits = true;
         if holds_nothing {
             self.step_word(pass, 0, WordStep::Load);
         }

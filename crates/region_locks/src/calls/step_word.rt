@@ -7,7 +7,7 @@ ghost use Rattle.ruled_words.specs.Holders.{IsFoundNode};
 ghost use Rattle.ruled_words.specs.Passes.{fixed_in, word_after, IsOwn, next_in, after_in};
 ghost use Rattle.ruled_words.specs.WordSteps.{word_by, MayBe};
 
-use crate::mirror::follow::follow;
+use crate::follow::follow;
 use crate::pass::Pass;
 use crate::table::NodeTable;
 use entity_recs::Action;
@@ -35,10 +35,15 @@ impl<'a, A: Action> NodeTable<'a, A> {
             → pass.old.view.seen ≤ result }
         ensures stored { (new : ℕ) → step ≡ WordStep.Store new → result ≡ new }
     {
-        let found = self
-            .words
-            .step_beside(&mut pass.hand, &pass.mirror, &pass.effect, word, step);
-        follow(self.rules(), &mut pass.mirror, &mut pass.effect, found);
+        let found = self.words.step_beside(
+            &mut pass.hand,
+            &pass.seat.given,
+            pass.seat.quits,
+            &pass.effect,
+            word,
+            step,
+        );
+        follow(self.rules(), &mut pass.seat, &mut pass.effect, found);
         found
     }
 }

@@ -3,7 +3,7 @@ ghost use Rattle.ruled_words.specs.Passes.{IsOwn, next_in, after_in};
 ghost use Rattle.region_locks.specs.NextCalls.{is_unlink_next};
 ghost use Rattle.region_locks.specs.NextCalls.{is_store_next, is_link_next};
 
-use crate::mirror::owed::{bit_owed, put_owed, slot_and_seq};
+use crate::owed::{bit_owed, put_owed, slot_and_seq};
 use crate::pass::Pass;
 use crate::table::NodeTable;
 use core_steps::list_word;
@@ -19,8 +19,8 @@ impl<'a, A: Action> NodeTable<'a, A> {
         ensures own { IsOwn A.meaning self.now pass.new }
         ensures pass { pass.new ≡ after_in A.meaning self.now 0 pass.old }
     {
-        let (slot, _) = slot_and_seq(&pass.mirror);
-        let word = list_word(bit_owed(&pass.mirror));
+        let (slot, _) = slot_and_seq(&pass.seat);
+        let word = list_word(bit_owed(&pass.seat));
         self.step_word(pass, usize::from(word), WordStep::Clear(slot));
     }
 
@@ -33,7 +33,7 @@ impl<'a, A: Action> NodeTable<'a, A> {
         ensures own { IsOwn A.meaning self.now pass.new }
         ensures pass { pass.new ≡ after_in A.meaning self.now 0 pass.old }
     {
-        let (word, new) = put_owed(&pass.mirror);
+        let (word, new) = put_owed(&pass.seat);
         self.step_word(pass, word, WordStep::Store(new));
     }
 
@@ -45,8 +45,8 @@ impl<'a, A: Action> NodeTable<'a, A> {
         ensures own { IsOwn A.meaning self.now pass.new }
         ensures pass { pass.new ≡ after_in A.meaning self.now 0 pass.old }
     {
-        let (slot, _) = slot_and_seq(&pass.mirror);
-        let word = list_word(bit_owed(&pass.mirror));
+        let (slot, _) = slot_and_seq(&pass.seat);
+        let word = list_word(bit_owed(&pass.seat));
         self.step_word(pass, usize::from(word), WordStep::Set(slot));
     }
 }

@@ -36,8 +36,8 @@ impl<'a, A: Action> NodeTable<'a, A> {
         ensures may_quit { IfErr result (λ h. is_taking pass.new.view.point ≡ true) }
     {
         let number = pass.number();
-        let writing = is_in_hand(&pass.effect, &pass.mirror.effect);
-        let wanted = pass.mirror.wanted.as_slice();
+        let writing = is_in_hand(&pass.effect, &pass.seat.effect);
+        let wanted = pass.seat.wanted.as_slice();
         let new = self.rules().held_word(number, writing, wanted, node);
         let found = self.step_word(pass, usize::from(node_word(node)), WordStep::Take(new));
         if found == 0 {

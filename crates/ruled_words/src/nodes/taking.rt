@@ -1,9 +1,10 @@
-ghost use Rattle.std.specs.Prelude.{◌≡◌, ◌==◌, ℕ, [], Some, if◌then◌else◌};
+ghost use Rattle.std.specs.Prelude.{◌≡◌, ◌==◌, ℕ, [], true, false, length, Some, if◌then◌else◌, OnOk, OnErr};
 ghost use Rattle.core_steps.specs.Machine.{TakeNode};
 ghost use Rattle.core_steps.specs.Steps.{point_after_take, view_after_refusal};
 ghost use Rattle.core_steps.specs.Points.{Taking, Checking};
 ghost use Rattle.core_steps.specs.Reads.{View};
 ghost use Rattle.core_seats.specs.Refusals.{AreRefusals};
+ghost use Rattle.ruled_words.specs.GivingUp.{NoTakeWasRefused, WasRefused, HasGivenUp};
 ghost use Rattle.ruled_words.specs.Hands.{IsOwnHand};
 ghost use Rattle.ruled_words.specs.Passes.{fixed_in, next_in, node_taken_next, word_after};
 ghost use Rattle.ruled_words.specs.Straight.{AreHeldFor, IsTriedOn};
@@ -12,13 +13,12 @@ ghost use Rattle.ruled_words.specs.WordSteps.{word_by};
 
 use crate::hand::Hand;
 use crate::held::Held;
+use crate::patience::{GivenUp, Patience};
 use crate::shared_words::SharedWords;
 use crate::word_step::WordStep;
 use core_seats::{Refusals, lowest_bit, without_bit};
 use core_steps::{NODE_HOLDERS, node_word};
 use entity_recs::Action;
-use std::sync::Wait;
-use std::thread;
 
 /// Whether the take was served: it found 0. One that was refused is counted.
 pub(crate) fn note_refused(refusals: &mut Refusals, held: &Held, node: u8, found: u64) -> bool
@@ -53,66 +53,84 @@ impl<'a, A: Action> SharedWords<'a, A> {
         ensures own { IsOwnHand A.meaning self.now hand.new }
         ensures pass { IsTried (fixed_in A.meaning self.now) hand.old hand.new result }
         ensures tried { IsTriedOn hand.old.tally hand.new.tally }
+        ensures served { result ≡ true → NoTakeWasRefused hand.old hand.new }
+        ensures refused { result ≡ false
+            → WasRefused (fixed_in A.meaning self.now) (length self.now.rooms) node hand.old hand.new }
         ensures refusals { AreRefusals refusals.old hand.old.view → AreRefusals refusals.new hand.new.view }
     {
         let found = self.step_hand(hand, usize::from(node_word(node)), WordStep::Take(new));
         note_refused(refusals, held, node, found)
     }
 
-    /// Takes the node, which comes next, with this word. Where another pass holds it, it is tried again until it is
-    /// taken.
-    pub(crate) fn take_node<R: Wait>(
+    /// Takes the node, which comes next, with this word: false where another pass holds it, and the take isn't tried
+    /// again.
+    pub(crate) fn take_node<P: Patience>(
         &self,
-        rt: &R,
+        patience: &P,
         hand: &mut Hand,
         refusals: &mut Refusals,
         held: &Held,
         node: u8,
         new: u64,
-    )
+    ) -> bool
         requires own { IsOwnHand A.meaning self.now hand.old }
         requires next { next_in A.meaning self.now hand.old ≡ Some (TakeNode node) }
         requires word { (found : ℕ) → word_after (fixed_in A.meaning self.now) hand.old found
             ≡ word_by (WordStep.Take new) found }
         requires held { AreHeldFor (fixed_in A.meaning self.now) held.now hand.old.view }
         ensures own { IsOwnHand A.meaning self.now hand.new }
-        ensures view { hand.new ≡ tried_until hand.old (point_after_take node hand.old.view.point) hand.new }
+        ensures view { result ≡ true
+            → hand.new ≡ tried_until hand.old (point_after_take node hand.old.view.point) hand.new }
         ensures tried { IsTriedOn hand.old.tally hand.new.tally }
+        ensures served { P.waits ≡ false → result ≡ true → NoTakeWasRefused hand.old hand.new }
+        ensures at_once { result ≡ false → P.waits ≡ false }
+        ensures refused { result ≡ false
+            → WasRefused (fixed_in A.meaning self.now) (length self.now.rooms) node hand.old hand.new }
         ensures refusals { AreRefusals refusals.old hand.old.view → AreRefusals refusals.new hand.new.view }
     {
-        for _ in rt.forever() {
-            if self.try_node(hand, refusals, held, node, new) {
-                return;
+        let mut before = 0;
+        while !self.try_node(hand, refusals, held, node, new) {
+            if !patience.again(before) {
+                return false;
             }
-            thread::yield_now();
+            before += 1;
         }
-        unreachable!()
+        true
     }
 
     /// Takes the leaves of the command, in rising number.
-    pub fn take_leaves<R: Wait>(
+    pub fn take_leaves<P: Patience>(
         &self,
-        rt: &R,
+        patience: &P,
         hand: &mut Hand,
         refusals: &mut Refusals,
         held: &Held,
-    )
+    ) -> Result<(), GivenUp>
         requires own { IsOwnHand A.meaning self.now hand.old }
         requires at { hand.old.view.point ≡ Taking [] hand.old.view.wanted }
         requires held { AreHeldFor (fixed_in A.meaning self.now) held.now hand.old.view }
         ensures own { IsOwnHand A.meaning self.now hand.new }
-        ensures view { hand.new ≡ tried_until hand.old Checking hand.new }
+        ensures view { OnOk result (hand.new ≡ tried_until hand.old Checking hand.new) }
+        ensures served { OnOk result (P.waits ≡ false → NoTakeWasRefused hand.old hand.new) }
+        ensures at_once { OnErr result (P.waits ≡ false) }
+        ensures given_up { OnErr result
+            (HasGivenUp (fixed_in A.meaning self.now) (length self.now.rooms) hand.old hand.new) }
         ensures tried { IsTriedOn hand.old.tally hand.new.tally }
         ensures refusals { AreRefusals refusals.old hand.old.view → AreRefusals refusals.new hand.new.view }
     {
         // The word of a leaf that is held names the pass and the leaves of its command.
         let new = u64::from(hand.number) + NODE_HOLDERS * u64::from(held.leaves) + 1;
         let first = self.first_leaf();
+        let mut taken = 0;
         let mut rest = u64::from(held.leaves);
         while rest != 0 {
             let leaf = lowest_bit(rest);
             rest = without_bit(rest, leaf);
-            self.take_node(rt, hand, refusals, held, first + leaf, new);
+            if !self.take_node(patience, hand, refusals, held, first + leaf, new) {
+                return Err(self.give_up(hand, &[], &held.wanted.as_slice()[..taken]));
+            }
+            taken += 1;
         }
+        Ok(())
     }
 }

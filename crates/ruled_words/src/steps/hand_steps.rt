@@ -1,13 +1,14 @@
 ghost use Rattle.std.specs.Prelude.{◌≡◌, ℕ, List, [], ◌∷◌, ◌++◌, ◌+◌, ◌^◌, ◌<◌, ◌≤◌, ◌%◌, true, length, is_some};
+ghost use Rattle.std.specs.Option.{option_map};
 ghost use Rattle.entity_recs.specs.Commands.{command_of};
 ghost use Rattle.core_steps.specs.declared.step.StepKind.TheVariants.{Commit};
-ghost use Rattle.core_steps.specs.Machine.{ReadPlayer, IsPending, index_of, kind_of};
+ghost use Rattle.core_steps.specs.Machine.{ReadPlayer, YieldCount, IsPending, index_of, kind_of};
 ghost use Rattle.core_steps.specs.Points.{Idle};
 ghost use Rattle.core_steps.specs.Reads.{record_read};
 ghost use Rattle.core_seats.specs.Nexts.{the_next};
-ghost use Rattle.core_seats.specs.Seats.{view_of};
 ghost use Rattle.ruled_words.specs.Going.{IsAtRest, view_looked};
-ghost use Rattle.ruled_words.specs.Hands.{IsOwnHand, IsPlain, begun_with, pass_keeping, pass_view, plain_pass, still_keeping};
+ghost use Rattle.ruled_words.specs.GivingUp.{quitting_pass};
+ghost use Rattle.ruled_words.specs.Hands.{IsOwnHand, IsPlain, begun_with, pass_beside, pass_keeping, plain_pass, still_keeping};
 ghost use Rattle.ruled_words.specs.Plays.{IsSoundSight};
 ghost use Rattle.ruled_words.specs.Holders.{IsFoundNode};
 ghost use Rattle.ruled_words.specs.Passes.{fixed_in, word_after, IsOwn, next_in, after_in, sight_of, HasGone};
@@ -16,7 +17,6 @@ ghost use Rattle.ruled_words.specs.WordSteps.{word_by, MayBe};
 use crate::hand::Hand;
 use crate::shared_words::SharedWords;
 use crate::word_step::WordStep;
-use core_seats::Seat;
 use core_steps::record_word;
 use entity_recs::{Action, Cmd, Effect};
 
@@ -89,30 +89,56 @@ impl<'a, A: Action> SharedWords<'a, A> {
         hand.resolve_on(&self.table.shared, effect, word, step)
     }
 
-    /// The hand makes the next step of its pass, which is the hand with this seat in plain values and the effect that is
-    /// kept: the step does this to the word. It gives the word that was found, or for a store the one that was stored.
+    /// The hand makes the step that comes next where giving up begins with it, or doesn't.
+    pub(crate) fn step_yielding(
+        &self,
+        hand: &mut Hand,
+        begins: bool,
+        word: usize,
+        step: WordStep,
+    ) -> u64
+        requires own { IsOwn A.meaning self.now (quitting_pass hand.old begins) }
+        requires comes { is_some (next_in A.meaning self.now (quitting_pass hand.old begins)) ≡ true }
+        requires index { word ≡ index_of hand.old.view
+            (the_next (next_in A.meaning self.now (quitting_pass hand.old begins))) }
+        requires left { (found : ℕ) → word_after (fixed_in A.meaning self.now) (quitting_pass hand.old begins) found
+            ≡ word_by step found }
+        requires may { MayBe step (fixed_in A.meaning self.now) hand.old.view
+            (the_next (next_in A.meaning self.now (quitting_pass hand.old begins))) word }
+        ensures pass { hand.new ≡ after_in A.meaning self.now result (quitting_pass hand.old begins) }
+        ensures own { IsOwnHand A.meaning self.now hand.new }
+        ensures counted { the_next (next_in A.meaning self.now (quitting_pass hand.old begins)) ≡ YieldCount
+            → hand.old.view.seen ≤ result }
+        ensures stored { (new : ℕ) → step ≡ WordStep.Store new → result ≡ new }
+    {
+        hand.yield_on(&self.table.shared, begins, word, step)
+    }
+
+    /// The hand makes the next step of its pass, where this command was given and isn't begun, it is to give up or not,
+    /// and this effect is kept: the step does this to the word. It gives the word that was found, or for a store the one
+    /// that was stored.
     pub fn step_beside(
         &self,
         hand: &mut Hand,
-        mirror: &Seat,
+        given: &Option<Cmd>,
+        quits: bool,
         effect: &Option<Effect>,
         word: usize,
         step: WordStep,
     ) -> u64
-        requires own { IsOwn A.meaning self.now (pass_view hand.old mirror.now effect.now) }
-        requires mirrors { view_of mirror.now ≡ hand.old.view }
-        requires comes { is_some (next_in A.meaning self.now (pass_view hand.old mirror.now effect.now)) ≡ true }
-        requires index { word ≡ index_of (view_of mirror.now)
-            (the_next (next_in A.meaning self.now (pass_view hand.old mirror.now effect.now))) }
+        requires own { IsOwn A.meaning self.now (pass_beside hand.old (option_map command_of given.now) quits effect.now) }
+        requires comes { is_some (next_in A.meaning self.now (pass_beside hand.old (option_map command_of given.now) quits effect.now)) ≡ true }
+        requires index { word ≡ index_of hand.old.view
+            (the_next (next_in A.meaning self.now (pass_beside hand.old (option_map command_of given.now) quits effect.now))) }
         requires left { (found : ℕ) → word_after (fixed_in A.meaning self.now)
-            (pass_view hand.old mirror.now effect.now) found ≡ word_by step found }
-        requires may { MayBe step (fixed_in A.meaning self.now) (view_of mirror.now)
-            (the_next (next_in A.meaning self.now (pass_view hand.old mirror.now effect.now))) word }
+            (pass_beside hand.old (option_map command_of given.now) quits effect.now) found ≡ word_by step found }
+        requires may { MayBe step (fixed_in A.meaning self.now) hand.old.view
+            (the_next (next_in A.meaning self.now (pass_beside hand.old (option_map command_of given.now) quits effect.now))) word }
         ensures gone { HasGone (fixed_in A.meaning self.now) (length self.now.rooms)
-            (pass_view hand.old mirror.now effect.now) result hand.new }
+            (pass_beside hand.old (option_map command_of given.now) quits effect.now) result hand.new }
         ensures stored { (new : ℕ) → step ≡ WordStep.Store new → result ≡ new }
     {
-        hand.step_beside(&self.table.shared, mirror, effect, word, step)
+        hand.step_beside(&self.table.shared, given, quits, effect, word, step)
     }
 
     /// The hand, which rests, looks at the count of commits.

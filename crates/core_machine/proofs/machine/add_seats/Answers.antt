@@ -1,7 +1,7 @@
 use Rattle.std.proofs.Common.{◌≤◌, [], ◌∷◌, ap, sym, subst, ◌∙◌, map, All, arith}
 use Rattle.std.proofs.lemmas.List.Elements.{All-append, All-from_recursion}
 use Rattle.entity_recs.specs.declared.limits.TheConstants.{IDS}
-use Rattle.core_seats.specs.Seats.{things_room}
+use Rattle.core_machine.specs.Seats.{things_room}
 use Rattle.core_machine.specs.Cores.{seat_of}
 use Rattle.core_machine.specs.ListRooms.{HasThingsRoom}
 use Rattle.core_machine.proofs.Starting.{seat_more}

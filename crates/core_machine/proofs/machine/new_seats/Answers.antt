@@ -1,9 +1,9 @@
 use Rattle.std.proofs.Common.{◌≤◌, List, [], ◌∷◌, ◌++◌, ap, sym, subst, ◌∙◌, All, arith}
 use Rattle.std.proofs.lemmas.List.Elements.{All-from_recursion}
 use Rattle.entity_recs.specs.declared.limits.TheConstants.{IDS}
-use Rattle.core_seats.specs.Seats.{things_room}
+use Rattle.core_machine.specs.Seats.{things_room}
 use Rattle.core_machine.specs.ListRooms.{HasThingsRoom}
-use Rattle.core_seats.specs.declared.seat.Seat.{Seat}
+use Rattle.core_machine.specs.declared.seat.Seat.{Seat}
 use Rattle.core_machine.proofs.Starting.{start_of}
 use Rattle.core_machine.proofs.machine.new_seats.Goals as goal
 

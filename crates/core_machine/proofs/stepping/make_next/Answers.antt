@@ -1,6 +1,6 @@
 use Rattle.core_steps.specs.Stands.{start_words}
 use Rattle.core_machine.specs.Tables.{words_in}
-use Rattle.core_seats.specs.Seats.{view_of, given_of}
+use Rattle.core_machine.specs.Seats.{view_of, given_of}
 use Rattle.core_seats.specs.Shown.{fixed_of}
 use Rattle.core_seats.specs.Nexts.{next_with, the_next}
 use Rattle.core_machine.proofs.StepsMade.{index_is, found_is, index_in_table, count_fits, sound_after, stepped, may_leave, left_is}

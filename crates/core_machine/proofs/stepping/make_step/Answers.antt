@@ -4,7 +4,7 @@ use Rattle.std.specs.Option.{option_map}
 use Rattle.core_steps.specs.Stands.{start_words}
 use Rattle.core_steps.specs.Machine.{Next, step_of}
 use Rattle.core_machine.specs.Tables.{words_in}
-use Rattle.core_seats.specs.Seats.{view_of}
+use Rattle.core_machine.specs.Seats.{view_of}
 use Rattle.core_seats.specs.Shown.{fixed_of}
 use Rattle.core_machine.specs.Cores.{seat_of}
 use Rattle.core_seats.specs.Nexts.{the_next}

@@ -1,5 +1,5 @@
 use Rattle.std.proofs.Common.{map, ◌<◌, length, length-append, ◌++◌, [], ◌∷◌, ap, sym, ◌∙◌, arith}
-use Rattle.core_seats.specs.Seats.{player_read_of}
+use Rattle.core_seats.specs.PlayerReads.{player_read_of}
 use Rattle.core_seats.specs.NearRecords.{near_one}
 use Rattle.world_tree.specs.Nears.{NearView}
 use Rattle.core_seats.proofs.NearLists.{near_more, near_same, pushed_near}

@@ -1,6 +1,6 @@
 use Rattle.std.proofs.Common.{◌≡◌, ◌≤◌, take, length, map}
 use Rattle.std.specs.List.{filter_map}
-use Rattle.core_seats.specs.Seats.{player_read_of}
+use Rattle.core_seats.specs.PlayerReads.{player_read_of}
 use Rattle.core_seats.specs.NearRecords.{near_one}
 use Rattle.core_seats.proofs.near.put_near.Given as goal
 

@@ -1,6 +1,6 @@
 use Rattle.std.proofs.Common.{◌≡◌, ℕ, true, false, take, map, None, slice_index_or}
 use Rattle.core_steps.specs.Reads.{player_at}
-use Rattle.core_seats.specs.Seats.{player_read_of}
+use Rattle.core_seats.specs.PlayerReads.{player_read_of}
 use Rattle.core_seats.proofs.near.slots_read.Given as goal
 
 abbrev pub invariant-loop-read : goal.invariant-loop-read

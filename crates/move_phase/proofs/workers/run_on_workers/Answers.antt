@@ -2,7 +2,7 @@ use Rattle.std.proofs.Common.{ℕ, List, length, map, sym, subst, arith}
 use Rattle.entity_recs.specs.Commands.{command_of}
 use Rattle.move_journal.specs.Logs.{JournalView}
 use Rattle.ruled_words.specs.Passes.{fixed_in}
-use Rattle.region_locks.specs.Closing.{log_from}
+use Rattle.shared_moves.specs.Closing.{log_from}
 use Rattle.move_phase.specs.Running.{HaveRun}
 use Rattle.move_phase.proofs.NewPasses.{may_serve}
 use Rattle.move_phase.proofs.Sharing.{numbers_rise, have_run}

@@ -1,5 +1,5 @@
 use Rattle.std.proofs.Common.{◌∙◌}
-use Rattle.region_locks.proofs.EndedPasses.{first_taken, next_ended}
+use Rattle.shared_moves.proofs.EndedPasses.{first_taken, next_ended}
 use Rattle.region_locks.proofs.close.end_all.Goals as goal
 
 pub loop-pass-init : goal.loop-pass-init

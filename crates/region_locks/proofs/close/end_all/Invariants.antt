@@ -1,6 +1,6 @@
 use Rattle.std.specs.Vec.Iter.{into_iter_items}
 use Rattle.ruled_words.specs.Passes.{sight_of}
-use Rattle.region_locks.proofs.EndedPasses.{IsEndedBut}
+use Rattle.shared_moves.proofs.EndedPasses.{IsEndedBut}
 use Rattle.region_locks.proofs.close.end_all.Given as goal
 
 abbrev pub invariant-loop-pass : goal.invariant-loop-pass

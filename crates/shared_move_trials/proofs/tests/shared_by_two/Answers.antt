@@ -1,6 +1,6 @@
 use Rattle.std.proofs.Common.{rules, ◌≡◌, length}
 use Rattle.ruled_words.specs.Passes.{fixed_in, setting_of}
-use Rattle.region_locks.specs.NewPasses.{first_pass, other_pass}
+use Rattle.ruled_words.specs.NewPasses.{first_pass, other_pass}
 use Rattle.trial_passes.proofs.Trials.{rooms, are_free}
 use Rattle.shared_move_trials.proofs.tests.shared_by_two.Goals as goal
 

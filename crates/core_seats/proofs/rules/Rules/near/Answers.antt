@@ -2,7 +2,7 @@ use Rattle.std.proofs.Common.{List, map, ap, ◌∙◌, arith}
 use Rattle.std.specs.List.{filter_map}
 use Rattle.std.proofs.lemmas.List.{length-map}
 use Rattle.entity_recs.specs.declared.rec.Rec.{Rec}
-use Rattle.core_seats.specs.Seats.{player_read_of}
+use Rattle.core_seats.specs.PlayerReads.{player_read_of}
 use Rattle.core_seats.specs.NearRecords.{near_one}
 use Rattle.core_seats.specs.Shown.{fixed_of}
 use Rattle.core_seats.proofs.NearLists.{near_are, found_at_ids}

@@ -1,7 +1,7 @@
 use Rattle.std.proofs.Common.{sym, ap, subst, ◌∙◌, ◌<◌, ◌==◌, length, ℕ, if◌then◌else◌, All}
 use Rattle.core_steps.specs.Nodes.{Fixed, is_leaf, nodes_of}
 use Rattle.core_seats.specs.Shown.{fixed_of}
-use Rattle.ruled_words.specs.Hands.{pass_view}
+use Rattle.region_locks.specs.PassLists.{pass_view}
 use Rattle.ruled_words.specs.Passes.{PassView, fixed_in}
 use Rattle.ruled_words.proofs.Holders.{other_holder}
 use Rattle.ruled_words.proofs.Takes.{takes_next, taken_next, taken_there, taken_index, word_of_holder, held_is, wanted_below}
@@ -20,7 +20,7 @@ step_word-found-requires-clause-left g c κs within found =
     let t = takes_next (fixed_in g.A.Action.meaning c.args.self.now) (length c.args.self.now.rooms) c.args.self.now.table c.args.pass.now c.args.node c.requires.own c.requires.next in
     t.left found
     ∙ ap (λ (w : ℕ). if found == 0 then w else found) (word_of_holder (fixed_in g.A.Action.meaning c.args.self.now) c.args.pass.now c.args.node _ t
-    ∙ held_is _ _ c.args.pass.now (pass_view c.pass.inside.hand c.pass.inside.mirror c.pass.inside.effect) c.number-number.result c.args.node c.held_word-new.result _ _
+    ∙ held_is _ _ c.args.pass.now (pass_view c.pass.inside.hand c.pass.inside.seat c.pass.inside.effect) c.number-number.result c.args.node c.held_word-new.result _ _
     (ap (fixed_of g.A.Action.meaning) c.rules.ensures)
     c.pass.view_is c.number-number.ensures c.as_slice-wanted.ensures.value c.is_in_hand-writing.ensures c.held_word-new.ensures)
 

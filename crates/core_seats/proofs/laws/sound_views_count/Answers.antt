@@ -1,5 +1,0 @@
-use Rattle.core_seats.proofs.SoundCounts.{sound_views_count}
-use Rattle.core_seats.proofs.laws.sound_views_count.Goals as goal
-
-pub returns : goal.returns
-returns c = sound_views_count

@@ -1,0 +1,7 @@
+-- Lemmas on moves and their passes.
+pub mod EndedPasses
+pub mod EndedLogs
+pub mod Runs
+pub mod PassRuns
+pub mod NewPasses
+pub mod Causes

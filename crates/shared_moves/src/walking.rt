@@ -1,0 +1,149 @@
+ghost use Rattle.std.specs.Prelude.{◌≡◌, ◌≤◌, ◌+◌, ◌%◌, false, length, [], IfOk, OnOk, OnErr};
+ghost use Rattle.entity_recs.specs.Commands.{command_of};
+ghost use Rattle.entity_recs.specs.Histories as histories;
+ghost use Rattle.core_steps.specs.Machine.{IsPending};
+ghost use Rattle.core_steps.specs.Steps.{visiting};
+ghost use Rattle.core_steps.specs.Nodes.{plan_of};
+ghost use Rattle.core_steps.specs.Points.{Idle};
+ghost use Rattle.core_steps.specs.Reads.{region_in};
+ghost use Rattle.core_seats.specs.Refusals.{AreRefusals};
+ghost use Rattle.ruled_words.specs.GivingUp.{NoTakeWasRefused, HasGivenUp};
+ghost use Rattle.ruled_words.specs.Hands.{IsOwnHand, plain_pass};
+ghost use Rattle.ruled_words.specs.Passes.{fixed_in, IsOwn};
+ghost use Rattle.ruled_words.specs.Straight.{AreHeldFor};
+ghost use Rattle.shared_moves.specs.Runs.{HoldsLeavesOf, HasReadAll, HasMoved, HasLeft};
+
+use crate::gate::{Gate, show_moment};
+use crate::moment::Moment;
+use core_seats::{LoadedPlayer, Refusals};
+use entity_recs::{Action, Cmd, Effect, Entry};
+use move_journal::same_reply;
+use ruled_words::{GivenUp, Hand, Held, Patience, SharedWords};
+use world_tree::NearList;
+
+/// The entry of a move that was committed at this place.
+fn entry_of(place: u64, cmd: &Cmd, effect: &Effect) -> Entry
+    ensures { result ≡ histories.entry_of place (command_of cmd.now) effect.now }
+{
+    Entry {
+        place,
+        slot: cmd.slot,
+        seq: cmd.seq,
+        reply: same_reply(&effect.reply),
+    }
+}
+
+/// Loads the own record for the command, and takes the leaves of its region. `Err` where one was
+/// held: the command is then given up.
+fn hold_leaves<A: Action, P: Patience, G: Gate>(
+    words: &SharedWords<A>,
+    patience: &P,
+    hand: &mut Hand,
+    refusals: &mut Refusals,
+    cmd: &Cmd,
+    gate: &G,
+) -> Result<Held, GivenUp>
+    requires own { IsOwn A.meaning words.now (plain_pass hand.old) }
+    requires idle { hand.old.view.point ≡ Idle }
+    requires pending { IsPending (fixed_in A.meaning words.now) hand.old.view (command_of cmd.now) }
+    requires serves { cmd.now.slot % length words.now.rooms ≡ hand.old.number }
+    ensures own { IsOwnHand A.meaning words.now hand.new }
+    ensures holds { IfOk result (λ held. HoldsLeavesOf (fixed_in A.meaning words.now) (command_of cmd.now) held.own
+        hand.old hand.new) }
+    ensures held { IfOk result (λ held. AreHeldFor (fixed_in A.meaning words.now) held hand.new.view) }
+    ensures served { OnOk result (P.waits ≡ false → NoTakeWasRefused hand.old hand.new) }
+    ensures at_once { OnErr result (P.waits ≡ false) }
+    ensures left { OnErr result
+        (HasLeft (fixed_in A.meaning words.now) (length words.now.rooms) (command_of cmd.now) hand.old hand.new) }
+    ensures refusals { AreRefusals refusals.old hand.old.view → AreRefusals refusals.new hand.new.view }
+{
+    let own = words.own_words(hand, cmd);
+    let region = words.region_of(hand, cmd, &own);
+    let rules = words.rules();
+    let (leaves, inner) = rules.node_bits(&region);
+    let wanted = rules.nodes_of(leaves);
+    let held = Held {
+        slot: cmd.slot,
+        own,
+        region,
+        leaves,
+        inner,
+        wanted,
+    };
+    words.take_leaves(patience, hand, refusals, &held)?;
+    gate.at(&Moment::at_leaves(hand, cmd));
+    Ok(held)
+}
+
+/// Loads all that the region holds, and gives the effect. The near list has room for 64 records and all that live at the
+/// start. `Err` where an inner node was held: the command is then given up.
+fn read_region<A: Action, P: Patience, G: Gate>(
+    words: &SharedWords<A>,
+    patience: &P,
+    hand: &mut Hand,
+    refusals: &mut Refusals,
+    near: &mut NearList,
+    cmd: &Cmd,
+    held: &Held,
+    again: &LoadedPlayer,
+    gate: &G,
+) -> Result<Effect, GivenUp>
+    requires own { IsOwnHand A.meaning words.now hand.old }
+    requires at { let F = fixed_in A.meaning words.now in let v = hand.old.view in
+        v.point ≡ visiting F v (plan_of F (region_in F v.cmd v.own)) }
+    requires others { hand.old.view.others ≡ [] }
+    requires held { AreHeldFor (fixed_in A.meaning words.now) held.now hand.old.view }
+    requires cmd_is { command_of cmd.now ≡ hand.old.view.cmd }
+    requires again_is { again.now ≡ hand.old.view.again }
+    requires room { 64 + length (fixed_in A.meaning words.now).start.ids ≤ near.old.room }
+    ensures own { IsOwnHand A.meaning words.now hand.new }
+    ensures read { IfOk result (λ e. HasReadAll (fixed_in A.meaning words.now) e hand.old hand.new) }
+    ensures served { OnOk result (P.waits ≡ false → NoTakeWasRefused hand.old hand.new) }
+    ensures at_once { OnErr result (P.waits ≡ false) }
+    ensures given_up { OnErr result
+        (HasGivenUp (fixed_in A.meaning words.now) (length words.now.rooms) hand.old hand.new) }
+    ensures refusals { AreRefusals refusals.old hand.old.view → AreRefusals refusals.new hand.new.view }
+    ensures room { near.new.room ≡ near.old.room }
+{
+    let mut by_slot = [[0; 6]; 64];
+    let seen = words.read_nodes(patience, hand, refusals, held, &mut by_slot)?;
+    let effect = words.read_effect(hand, near, cmd, &held.region, again, seen, &by_slot);
+    gate.at(&Moment::at_effect(words, hand, cmd, &effect));
+    Ok(effect)
+}
+
+/// Runs the command on a hand that rests, and gives its entry. The near list has room for 64 records and all that live at
+/// the start. `Err` where a node was held, and the patience doesn't wait for it: all that the hand held is given back, and
+/// the command is no longer in hand.
+pub fn walk<A: Action, P: Patience, G: Gate>(
+    words: &SharedWords<A>,
+    patience: &P,
+    hand: &mut Hand,
+    refusals: &mut Refusals,
+    near: &mut NearList,
+    cmd: &Cmd,
+    gate: &G,
+) -> Result<Entry, GivenUp>
+    requires own { IsOwn A.meaning words.now (plain_pass hand.old) }
+    requires idle { hand.old.view.point ≡ Idle }
+    requires pending { IsPending (fixed_in A.meaning words.now) hand.old.view (command_of cmd.now) }
+    requires serves { cmd.now.slot % length words.now.rooms ≡ hand.old.number }
+    requires room { 64 + length (fixed_in A.meaning words.now).start.ids ≤ near.old.room }
+    ensures own { IsOwnHand A.meaning words.now hand.new }
+    ensures moved { IfOk result (λ e. HasMoved (command_of cmd.now) e hand.old hand.new) }
+    ensures served { OnOk result (P.waits ≡ false → NoTakeWasRefused hand.old hand.new) }
+    ensures at_once { OnErr result (P.waits ≡ false) }
+    ensures left { OnErr result
+        (HasLeft (fixed_in A.meaning words.now) (length words.now.rooms) (command_of cmd.now) hand.old hand.new) }
+    ensures refusals { AreRefusals refusals.old hand.old.view → AreRefusals refusals.new hand.new.view }
+    ensures room { near.new.room ≡ near.old.room }
+{
+    let held = hold_leaves(words, patience, hand, refusals, cmd, gate)?;
+    let again = words.own_again(hand, cmd.slot);
+    let effect = read_region(words, patience, hand, refusals, near, cmd, &held, &again, gate)?;
+    let place = words.write_effect(patience, hand, refusals, &held, &again, &effect)?;
+    let committed = Moment::at_commit(hand, cmd, entry_of(place, cmd, &effect));
+    let entry = show_moment(committed, gate).unwrap();
+    words.return_leaves(hand, &held);
+    Ok(entry)
+}
