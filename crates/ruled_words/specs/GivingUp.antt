@@ -1,10 +1,10 @@
 -- A take that was refused, and a command that is given up for it.
-use Rattle.std.specs.Prelude.{◌≡◌, ◌≢◌, ◌≤◌, ℕ, ◌+◌, ◌-◌, ◌^◌, min, Bool, true, false, List, ◌∷◌, Option, Some}
+use Rattle.std.specs.Prelude.{◌≡◌, ◌≢◌, ◌≤◌, ℕ, ◌+◌, ◌-◌, ◌^◌, min, Bool, true, false, ◌∷◌, Some}
 use Rattle.entity_recs.specs.Commands.{Command}
 use Rattle.core_steps.specs.Nodes.{Fixed, has, is_leaf, leaf_nodes, inner_visited}
 use Rattle.core_steps.specs.Reads.{Refused, View, region_in, without_command}
 use Rattle.core_steps.specs.Steps.{view_after_refusal}
-use Rattle.ruled_words.specs.Sights.{HeldWord, Tally}
+use Rattle.ruled_words.specs.Sights.{Tally}
 use Rattle.ruled_words.specs.Passes.{PassView, IsHolderIn}
 use Rattle.ruled_words.specs.Holders.{IsHeldByOther, IsOtherHolder, IsReached}
 use Rattle.ruled_words.specs.Straight.{in_view_with}

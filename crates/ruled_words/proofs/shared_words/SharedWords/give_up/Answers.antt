@@ -1,7 +1,7 @@
-use Rattle.std.proofs.Common.{◌≤◌, ◌+◌, [], ◌∷◌, length, drop, slice_index_or, refl, arith, sym, ◌∙◌, ap}
+use Rattle.std.proofs.Common.{◌+◌, [], ◌∷◌, length, drop, slice_index_or, refl, arith, ◌∙◌, ap}
 use Rattle.core_steps.specs.Steps.{is_taking}
 use Rattle.ruled_words.specs.Passes.{PassView, fixed_in}
-use Rattle.ruled_words.proofs.GivingUp.{HasLeft, left_all, left_next, left_node, left_leaf, left_start, left_own, none_held, all_left, seen_left, count_left, seen_counted, nodes_there, leaves_there, nodes_done, leaves_done}
+use Rattle.ruled_words.proofs.GivingUp.{left_all, left_next, left_node, left_leaf, left_start, left_own, none_held, nodes_there, leaves_there, nodes_done, leaves_done}
 use Rattle.ruled_words.proofs.shared_words.SharedWords.give_up.Goals as goal
 
 pub loop-node-init : goal.loop-node-init

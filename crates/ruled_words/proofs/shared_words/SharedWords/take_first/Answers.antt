@@ -1,4 +1,4 @@
-use Rattle.std.proofs.Common.{◌≡◌, ◌∙◌, false, refl, sym, subst, length, Some, arith}
+use Rattle.std.proofs.Common.{◌≡◌, ◌∙◌, refl, sym, subst, length, Some, arith}
 use Rattle.std.proofs.lemmas.Bool.{false≢true}
 use Rattle.core_steps.specs.Points.{Resolving}
 use Rattle.core_steps.specs.Reads.{View, effect_loaded}
