@@ -45,6 +45,7 @@ pub mod RunWorlds
 pub mod Starting
 pub mod Worlds
 pub mod StartLinks
+pub mod FirstWords
 pub mod Openings
 pub mod Loads
 pub mod TableCopies

@@ -1,6 +1,7 @@
 -- The world that a table begins with, as histories see it.
-use Rattle.std.specs.Prelude.{◌≡◌, ℕ, ◌<◌, true, List, [], if◌then◌else◌, length, slice_index}
+use Rattle.std.specs.Prelude.{◌≡◌, ℕ, ◌<◌, true, List, [], if◌then◌else◌, length, map, slice_index}
 use Rattle.std.specs.Prelude.{Option, Some, None}
+use Rattle.std.specs.List.{range_with_len}
 use Rattle.core_steps.specs.declared.sizes.TheConstants.{TABLE_WORDS}
 use Rattle.entity_recs.specs.Actions.{Meaning}
 use Rattle.entity_recs.specs.Worlds.{World, zero_vector, world_of}
@@ -47,6 +48,10 @@ home_of world slot =
 -- the words of the table at the start, in the flat table
 abbrev pub start_word_at : WorldView → ℕ → ℕ
 start_word_at world index = word_at (start_words (fixed_of_world world)) index
+
+-- the words of the table at the start before this index
+abbrev pub first_words : WorldView → ℕ → List ℕ
+first_words world n = map (start_word_at world) (range_with_len 0 n)
 
 -- the words of the world, each at its index
 pub record AreStartWords (world : WorldView) (words : List ℕ) : Type 0 where

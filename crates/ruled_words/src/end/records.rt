@@ -1,4 +1,4 @@
-ghost use Rattle.std.specs.Prelude.{◌≡◌, ◌≢◌, ℕ, ◌<◌, Some};
+ghost use Rattle.std.specs.Prelude.{◌≡◌, ◌≢◌, ℕ, ◌<◌, true, Some};
 ghost use Rattle.std.specs.Option.{option_map};
 ghost use Rattle.entity_recs.specs.declared.rec.Rec.{Rec};
 ghost use Rattle.world_tree.specs.Live.{IsEntry};
@@ -38,7 +38,17 @@ fn record_in(words: &[u64; TABLE_WORDS], r: &Rec) -> Rec
     }
 }
 
-/// Puts the record that the words have in place of the one with this id, if it is live, and links it anew.
+/// Whether this is a thing of the map whose state is what it was.
+fn is_same_thing(words: &[u64; TABLE_WORDS], r: &Rec) -> bool
+    requires { r.now.id < IDS }
+    ensures { result ≡ true → record_in words.now r.now ≡ r.now }
+{
+    let id = usize::from(r.id);
+    id >= 64 && words[usize::from(FIRST_STATE_WORD) + id] == r.state
+}
+
+/// Puts the record that the words have in place of the one with this id, if it is live, and links it anew, but
+/// for a thing that stayed as it was.
 fn relink(words: &[u64; TABLE_WORDS], world: &mut World, id: u16)
     requires entry { (r : Rec) → record_of world.old id ≡ Some r → IsEntry r.id (record_in words.now r) }
     ensures here { record_of world.new id ≡ option_map (record_in words.now) (record_of world.old id) }
@@ -46,8 +56,11 @@ fn relink(words: &[u64; TABLE_WORDS], world: &mut World, id: u16)
     ensures tree { world.new.tree ≡ world.old.tree }
     ensures linked { IsLinked world.new }
 {
-    if let Some(r) = world.get(id) {
-        world.relink(record_in(words, &r));
+    let Some(old) = world.get(id) else {
+        return;
+    };
+    if !is_same_thing(words, &old) {
+        world.relink(record_in(words, &old));
     }
 }
 

@@ -28,5 +28,5 @@ loop-slot-preserved c =
           (link_same w c.loop-slot.slot c.loop-slot.links c.loop-slot.invariant (sym b.in_default.is ∙ c.home_at_start.ensures.home))
     ]
 
-pub returns : goal.returns
-returns c = all_linked c.args.world.now c.loop-slot.slot c.loop-slot.links c.loop-slot.invariant (omega (arith, c.loop-slot.auto.slot-end, c.loop-slot-test.false))
+pub returns-clause-words : goal.returns-clause-words
+returns-clause-words c = all_linked c.args.world.now c.loop-slot.slot c.loop-slot.links c.loop-slot.invariant (omega (arith, c.loop-slot.auto.slot-end, c.loop-slot-test.false))
