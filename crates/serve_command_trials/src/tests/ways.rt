@@ -50,6 +50,7 @@ const DEPTH_4_TO_1: &str =
 /// A map with lines on how many blocks there may be, and what `bots 1` writes of it: the line comes before the block.
 const BLOCKS: &str =
     "arena -131072 -131072 0 131072 131072 65536\nspawn 0 0 6144\nblocks 1025\nblock 90000 90000 0 91000 91000 7000\nspawn 4096 0 6144\nshots\nend\n";
+
 const BLOCKS_TO_1: &str =
     "arena -131072 -131072 0 131072 131072 65536\nshots\nblocks 1025\nblock 90000 90000 0 91000 91000 7000\nspawn 0 0 6144\nspawn 4096 0 6144\nframe\nfrom 1 0101\nframe\nfrom 1 010201000000324001000000\nend\nway 0 1\nlength 4096\nleast 0 4096\n";
 
