@@ -5,7 +5,7 @@ import sys
 import unittest
 
 from calls import SECONDS, Calls, content, run
-from common import CHECKS, PROGRAM, script
+from common import CHECKS, PROGRAM, FormatError, script
 
 import speed_recordings as recordings
 import walkers
@@ -47,15 +47,12 @@ class Speed(Calls):
     def test_walkers_join_as_there_is_room(self):
         text = content("arena.map")
         spawns = text.count(b"\nspawn ")
-        out, error, status = run(["play", "1"], walkers.walked_here(text, 64, 100))
+        out, error, status = run(["play", "1"], walkers.walked(text, 64, 100))
         self.assertEqual((error, status), (b"", 0))
         frames = out.split(b"\nframe ")
-        self.assertEqual(frames[0].count(b"\njoined "), spawns)
-        self.assertEqual(sum(frame.count(b"\ndid ") for frame in frames[:2]), 2 * spawns)
-        if run(["walk", "7", "64", "100"], text)[2] == 0:
-            shown = [[line for line in part.splitlines() if line.endswith(b" 0101")] for part in
-                     (walkers.walked_here(text, 64, 100), walkers.walked(text, 64, 100))]
-            self.assertEqual(*shown)
+        self.assertEqual((frames[0].count(b"\njoined "), frames[0].count(b"\ndid ")), (spawns, spawns))
+        with self.assertRaisesRegex(FormatError, "walk 7 64 100 ended with status 1: recording refused: line 1, fault 3"):
+            walkers.walked(b"a map\n", 64, 100)
 
     def test_maps(self):
         played = [case.moves for case in recordings.on_maps(self.path("a.demo", content("duel.demo")), 9)]
