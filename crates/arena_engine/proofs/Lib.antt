@@ -16,4 +16,7 @@ pub mod Stopped
 pub mod Summing
 pub mod MapRead
 pub mod WaysReported
+pub mod FirstEvent
+pub mod FirstMap
+pub mod Walking
 pub mod Judging

@@ -5,7 +5,7 @@ use Rattle.move_phase.specs.Serving.{AreWorkers}
 use Rattle.demo_make.specs.GeneratedFrames.{IsInRange}
 use Rattle.match_play.specs.Matches.{IsMatch}
 use Rattle.arena_engine.specs.declared.command.Command.{Command}
-use Rattle.arena_engine.specs.declared.command.Command.TheVariants.{Play, Feed, Make, Resend, Match, Bots, Check, Audit, Help, Version}
+use Rattle.arena_engine.specs.declared.command.Command.TheVariants.{Play, Feed, Make, Resend, Walk, Match, Bots, Check, Audit, Help, Version}
 
 -- the texts of words
 abbrev pub contents : List (Bor (List ℕ)) → List (List ℕ)
@@ -19,6 +19,8 @@ words_of (Make seed players frames) =
     codes "make" ∷ decimal seed ∷ decimal players ∷ decimal frames ∷ []
 words_of (Resend seed players frames) =
     codes "resend" ∷ decimal seed ∷ decimal players ∷ decimal frames ∷ []
+words_of (Walk seed players frames) =
+    codes "walk" ∷ decimal seed ∷ decimal players ∷ decimal frames ∷ []
 words_of (Match seed players frames workers) =
     codes "match" ∷ decimal seed ∷ decimal players ∷ decimal frames ∷ decimal workers ∷ []
 words_of (Bots target) = codes "bots" ∷ decimal target ∷ []
@@ -47,6 +49,7 @@ HasRanges (Play workers) = AreWorkers workers
 HasRanges (Feed workers) = AreWorkers workers
 HasRanges (Make seed players frames) = IsSeed seed × IsInRange players frames
 HasRanges (Resend seed players frames) = IsSeed seed × IsInRange players frames
+HasRanges (Walk seed players frames) = IsSeed seed × IsInRange players frames
 HasRanges (Match seed players frames workers) = IsSeed seed × IsMatch players frames × AreWorkers workers
 HasRanges (Bots target) = IsTarget target
 HasRanges Check = ⊤

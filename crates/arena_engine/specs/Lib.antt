@@ -24,6 +24,7 @@ pub use Rattle.out_text.specs.OneTaker
 pub use Rattle.demo_make.specs.GeneratedMap
 pub use Rattle.demo_make.specs.GeneratedFrames
 pub use Rattle.demo_make.specs.ResentFrames
+pub use Rattle.demo_walk.specs.WalkedFrames
 pub use Rattle.match_play.specs.Matches
 pub use Rattle.transcript_check.specs.Verdicts
 pub use Rattle.transcript_check.specs.Audits
@@ -53,4 +54,5 @@ pub mod Planned
 pub mod Judgments
 pub mod Checked
 pub mod MapReads
+pub mod Walked
 pub mod Served

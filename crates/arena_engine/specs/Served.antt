@@ -3,7 +3,7 @@ use Rattle.std.specs.Prelude.{◌≡◌, None, ⊤}
 use Rattle.edge_io.specs.declared.source.Source as sources
 use Rattle.edge_io.specs.declared.sink.Sink as sinks
 use Rattle.arena_engine.specs.declared.command.Command.{Command}
-use Rattle.arena_engine.specs.declared.command.Command.TheVariants.{Play, Feed, Make, Resend, Match, Bots, Check, Audit, Help, Version}
+use Rattle.arena_engine.specs.declared.command.Command.TheVariants.{Play, Feed, Make, Resend, Walk, Match, Bots, Check, Audit, Help, Version}
 use Rattle.arena_engine.specs.declared.commands.explain.TheConstants.{HELP, VERSION}
 use Rattle.arena_engine.specs.declared.report.Report.{Report}
 use Rattle.arena_engine.specs.Making.{IsMade, IsResent, IsMatched}
@@ -11,6 +11,7 @@ use Rattle.arena_engine.specs.Played.{IsPlayed, IsFed}
 use Rattle.arena_engine.specs.Planned.{IsPlanned}
 use Rattle.arena_engine.specs.Checked.{IsChecked, IsAudited}
 use Rattle.arena_engine.specs.Explained.{IsExplained}
+use Rattle.arena_engine.specs.Walked.{IsWalked}
 
 -- P, and nothing was read
 pub record Unread {S : Type 0} (source source' : S) (P : Type 0) : Type 0 where
@@ -24,6 +25,8 @@ IsServed s k source source' sink sink' r (Feed workers) = IsFed s k workers sour
 IsServed s k source source' sink sink' r (Make seed players frames) = Unread source source' (IsMade k seed players frames sink sink' r)
 IsServed s k source source' sink sink' r (Resend seed players frames) =
     Unread source source' (IsResent k seed players frames sink sink' r)
+IsServed s k source source' sink sink' r (Walk seed players frames) =
+    IsWalked s k seed players frames source source' sink sink' r
 IsServed s k source source' sink sink' r (Match seed players frames workers) =
     Unread source source' (IsMatched k seed players frames workers sink sink' r)
 IsServed s k source source' sink sink' r (Bots target) = IsPlanned s k target source source' sink sink' r
@@ -38,6 +41,7 @@ HasNoOrder r (Play workers) = r.order ≡ None
 HasNoOrder r (Feed workers) = ⊤
 HasNoOrder r (Make seed players frames) = r.order ≡ None
 HasNoOrder r (Resend seed players frames) = r.order ≡ None
+HasNoOrder r (Walk seed players frames) = r.order ≡ None
 HasNoOrder r (Match seed players frames workers) = r.order ≡ None
 HasNoOrder r (Bots target) = r.order ≡ None
 HasNoOrder r Check = r.order ≡ None

@@ -47,6 +47,16 @@ pub enum Command {
         /// How many frames it has, 1 to 100,000.
         frames: u32,
     },
+    /// Reads the lines of a map from the source, and writes a recording of it in which players join and walk, by the words
+    /// of a seed.
+    Walk {
+        /// The seed.
+        seed: u64,
+        /// How many players it has, 1 to 64.
+        players: u8,
+        /// How many frames it has, 1 to 100,000; none where the map has no spawn.
+        frames: u32,
+    },
     /// Plays the recording of a seed without writing it.
     Match {
         /// The seed.
@@ -119,6 +129,19 @@ fn resend(seed: &str, players: &str, frames: &str) -> Option<Command>
     })
 }
 
+/// The command `walk` with these words.
+fn walk(seed: &str, players: &str, frames: &str) -> Option<Command>
+    ensures some { IfSome result (Spells (codes "walk" ∷ seed.now ∷ players.now ∷ frames.now ∷ [])) }
+    ensures only { (c : Command) → Spells (codes "walk" ∷ seed.now ∷ players.now ∷ frames.now ∷ []) c
+        → result ≡ Some c }
+{
+    Some(Command::Walk {
+        seed: number(seed)?,
+        players: number_up_to(players, MOST_PLAYERS)? as u8,
+        frames: number_up_to(frames, MOST_FRAMES)?,
+    })
+}
+
 /// The command `match` with these words.
 fn match_of(seed: &str, players: &str, frames: &str, workers: &str) -> Option<Command>
     ensures some { IfSome result
@@ -149,9 +172,9 @@ fn bots(target: &str) -> Option<Command>
 }
 
 /// The command that the words ask for, and `None` exactly where they are those of no command: `play N`, `feed N`,
-/// `make SEED PLAYERS FRAMES`, `resend SEED PLAYERS FRAMES`, `match SEED PLAYERS FRAMES N`, `bots TARGET`, `check`,
-/// `audit`, `help` or `version`, the last two also as `--help` and `--version`, where each number is in its range, in
-/// decimal digits without a sign and without a leading zero, 0 itself excepted.
+/// `make SEED PLAYERS FRAMES`, `resend SEED PLAYERS FRAMES`, `walk SEED PLAYERS FRAMES`, `match SEED PLAYERS FRAMES N`,
+/// `bots TARGET`, `check`, `audit`, `help` or `version`, the last two also as `--help` and `--version`, where each number
+/// is in its range, in decimal digits without a sign and without a leading zero, 0 itself excepted.
 pub fn command_of(words: &[&str]) -> Option<Command>
     ensures some { IfSome result (Spells (contents words.now)) }
     ensures only { (c : Command) → Spells (contents words.now) c → result ≡ Some c }
@@ -161,6 +184,7 @@ pub fn command_of(words: &[&str]) -> Option<Command>
         ["feed", workers] => feed(workers),
         ["make", seed, players, frames] => make(seed, players, frames),
         ["resend", seed, players, frames] => resend(seed, players, frames),
+        ["walk", seed, players, frames] => walk(seed, players, frames),
         ["match", seed, players, frames, workers] => match_of(seed, players, frames, workers),
         ["check"] => Some(Command::Check),
         ["audit"] => Some(Command::Audit),

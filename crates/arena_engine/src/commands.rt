@@ -8,3 +8,4 @@ pub(crate) mod judging;
 pub(crate) mod make;
 pub(crate) mod match_seed;
 pub(crate) mod play;
+pub(crate) mod walk;

@@ -12,6 +12,7 @@ use crate::commands::explain::{HELP, VERSION, explain};
 use crate::commands::make::{write_made, write_resent};
 use crate::commands::match_seed::play_and_sum;
 use crate::commands::play::{feed_recording, play_recording};
+use crate::commands::walk::write_walk_on_map;
 use crate::report::Report;
 use crate::status::Status;
 use edge_io::{Sink, Source};
@@ -79,6 +80,13 @@ pub fn perform<R: Threads + Wait + Sync, S: Source, K: Sink, G: Gate>(
                 frames,
             },
         ) => write_resent(alloc, seed, players, frames, sink),
+        Some(
+            Command::Walk {
+                seed,
+                players,
+                frames,
+            },
+        ) => write_walk_on_map(alloc, seed, players, frames, source, sink),
         Some(
             Command::Match {
                 seed,

@@ -13,6 +13,7 @@ mod logs;
 mod made;
 mod resent;
 mod transcripts;
+mod walk;
 mod ways;
 
 const ARENA: &str = "arena -131072 -131072 0 131072 131072 65536\n";

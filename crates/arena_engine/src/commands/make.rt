@@ -10,7 +10,7 @@ use edge_io::Sink;
 use std::alloc::Global;
 
 /// The report of a recording that was written, or wasn't.
-fn report_of(alloc: Global, written: Result<(), MakeStop>) -> Report
+pub fn report_of(alloc: Global, written: Result<(), MakeStop>) -> Report
     ensures status { result.status ≡ status_of written }
     ensures bare { IsBare result }
     ensures no_journals { result.all ≡ [] }
