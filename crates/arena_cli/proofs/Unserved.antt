@@ -14,13 +14,14 @@ use Rattle.arena_engine.specs.Reports.{last_in}
 use Rattle.edge_io.specs.declared.source.Source as sources
 use Rattle.edge_io.specs.declared.sink.Sink as sinks
 use Rattle.arena_engine.specs.declared.command.Command.{Command}
-use Rattle.arena_engine.specs.declared.command.Command.TheVariants.{Play, Feed, Make, Resend, Match, Bots, Check, Audit, Help, Version}
+use Rattle.arena_engine.specs.declared.command.Command.TheVariants.{Play, Feed, Make, Resend, Walk, Match, Bots, Check, Audit, Help, Version}
 use Rattle.arena_engine.specs.Making.{IsMade, IsResent, IsMatched}
 use Rattle.arena_engine.specs.declared.feeding.Feeding.TheVariants.{Recorded, Threaded}
 use Rattle.arena_engine.specs.Feedings.{no_last}
 use Rattle.arena_engine.specs.Texts.{Texts, play_texts, feed_texts}
 use Rattle.arena_engine.specs.Played.{IsPlayedWith}
 use Rattle.arena_engine.specs.Planned.{IsPlanned}
+use Rattle.arena_engine.specs.Walked.{IsWalked}
 use Rattle.arena_engine.specs.Checked.{IsChecked, IsAudited}
 use Rattle.arena_engine.specs.declared.commands.explain.TheConstants.{HELP, VERSION}
 use Rattle.arena_engine.specs.Explained.{IsExplained}
@@ -61,6 +62,8 @@ module _ {S K : Type 0} (s : sources.Ghosts S) (k : sinks.Ghosts K) (source sour
       let is : Unread source source' (IsMade k seed players frames sink sink' r) = search (rules, unread, same, five, place, last, all) in is
   not_served (Resend seed players frames) =
       let is : Unread source source' (IsResent k seed players frames sink sink' r) = search (rules, unread, same, five, place, last, all) in is
+  not_served (Walk seed players frames) =
+      let is : IsWalked s k seed players frames source source' sink sink' r = search (rules, same, five, last, all) in is
   not_served (Match seed players frames workers) =
       let is : Unread source source' (IsMatched k seed players frames workers sink sink' r) = search (rules, unread, same, five, place, last, all) in is
   not_served (Bots target) =

@@ -70,14 +70,15 @@ pub none-before : (r : Reading) (lines : List (List ℕ)) → is_over (after r (
     → length (events_of r lines) ≡ 1 → events_of r (all_but_last lines) ≡ []
 none-before r [] going fine one = refl
 none-before r (line ∷ []) going fine one = refl
-none-before r (line ∷ other ∷ lines) going fine one = by (events_of_line r line) refl one
+none-before r (line ∷ other ∷ lines) going fine one = by (events_of_line r line) refl one (λ count. none-before (next r line) (other ∷ lines) going fine count)
   where
     rest : List Event
     rest = events_of (next r line) (all_but_last (other ∷ lines))
 
-    by : (es : List Event) → events_of_line r line ≡ es → length (es ++ events_of (next r line) (other ∷ lines)) ≡ 1 → events_of_line r line ++ rest ≡ []
-    by [] is count = ap (λ es. es ++ rest) is ∙ none-before (next r line) (other ∷ lines) going fine count
-    by (e ∷ es) is count =
+    by : (es : List Event) → events_of_line r line ≡ es → length (es ++ events_of (next r line) (other ∷ lines)) ≡ 1
+        → (length (events_of (next r line) (other ∷ lines)) ≡ 1 → rest ≡ []) → events_of_line r line ++ rest ≡ []
+    by [] is count later = ap (λ es. es ++ rest) is ∙ later count
+    by (e ∷ es) is count later =
         let none = no-more e es (events_of_line (next r line) other) (events_of (next (next r line) other) lines) count in
         let stage = stage_after-line r (next r line) line e refl (is ∙ ap (λ xs. e ∷ xs) none.0) in
         absurd (line-gives (next r line) other (going-before (next r line) (all_but_last (other ∷ lines)) going) (ap is_map_whole stage ∙ whole_after e)

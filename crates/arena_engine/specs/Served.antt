@@ -35,6 +35,12 @@ IsServed s k source source' sink sink' r Audit = IsAudited s k source source' si
 IsServed s k source source' sink sink' r Help = Unread source source' (IsExplained k HELP.now sink sink' r)
 IsServed s k source source' sink sink' r Version = Unread source source' (IsExplained k VERSION.now sink sink' r)
 
+-- the status of what explains the program isn't that of lack of memory
+abbrev pub NeverLacksMemory : Report → Command → Type 0
+NeverLacksMemory r Help = r.status ≡ 5 → ⊥
+NeverLacksMemory r Version = r.status ≡ 5 → ⊥
+NeverLacksMemory r _ = ⊤
+
 -- no order of arrival is in the report of a command but `feed`
 abbrev pub HasNoOrder : Report → Command → Type 0
 HasNoOrder r (Play workers) = r.order ≡ None

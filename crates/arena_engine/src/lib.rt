@@ -4,7 +4,7 @@
 ghost use Rattle.std.specs.Prelude.{◌≡◌, ◌↔◌, None};
 ghost use Rattle.arena_engine.specs.declared.command.Command.{Command};
 ghost use Rattle.arena_engine.specs.Endings.{Ends};
-ghost use Rattle.arena_engine.specs.Served.{IsServed, HasNoOrder};
+ghost use Rattle.arena_engine.specs.Served.{IsServed, HasNoOrder, NeverLacksMemory};
 ghost use Rattle.arena_engine.specs.Serving.{AskFor, AskForNothing};
 
 use command::command_of;
@@ -43,7 +43,9 @@ mod summary;
 /// in the order of their arrival.
 /// `make SEED PLAYERS FRAMES` writes the recording of a seed, and `resend SEED PLAYERS FRAMES` that in which packets are
 /// lost and commands are resent. `match SEED PLAYERS FRAMES N` plays the recording of a seed on N workers without writing
-/// it, and writes one line of what its frames came to. None of the three reads. `bots TARGET` reads a recording from the
+/// it, and writes one line of what its frames came to. None of the three reads. `walk SEED PLAYERS FRAMES` reads the lines
+/// of a map up to the first `frame` or `end`, and writes a recording of that map in which players join and walk by the
+/// words of the seed. `bots TARGET` reads a recording from the
 /// source, and writes one of the same map in which a bot walks the shortest way from spawn 0 to spawn TARGET, with the
 /// way and the least lengths after its line `end`. `check` reads a recording of at most 2,000 frames and what follows
 /// it, and writes one line where that is an output of the recording; what follows the line `end K` of the output isn't
@@ -58,15 +60,15 @@ mod summary;
 /// The report's status says how it ended:
 ///
 /// - 0: the recording was read to its line `end`, and its whole output was written; or the recording that was made or
-/// resent, or the line of the match, was written whole; or what a way comes to was; or the output or the log that was judged
+/// resent, or that walks on the map, or the line of the match, was written whole; or what a way comes to was; or the output or the log that was judged
 /// is right; or what explains the program was written.
 /// - 1: a line of the recording has a fault; the report has the number of the first one, its first fault, and the rule
 /// of the map that it breaks. The frames that were closed before it are written.
 /// - 2: the words ask for nothing. Nothing is read or written.
 /// - 3: a read failed. The frames that the lines before it close are written.
 /// - 4: a write failed. A front of what was to be written is: of an output, all frames but the last are whole.
-/// - 5: there was not enough memory. Of an output, whole frames are written; of what is made, resent, summed or planned,
-/// nothing.
+/// - 5: there was not enough memory. Of an output, whole frames are written; of what is made, resent, walked, summed or
+/// planned, nothing.
 /// - 6: the output or the log that was judged is wrong; the report has the number, in the whole input, of the first line
 /// of the first piece that is wrong: of a frame, or of the last line. Nothing is written.
 /// - 7: there is no way to the spawn. Where the map has no such spawn nothing is written, and where no walk leads there
@@ -89,6 +91,8 @@ pub fn serve<R: Threads + Wait + Sync, S: Source, K: Sink, G: Gate>(
     // Only what client threads sent has an order of arrival.
     ensures orders { (command : Command) → AskFor words.now command → HasNoOrder result command }
     ensures no_order { result.status ≡ 2 → result.order ≡ None }
+    // What explains the program takes no memory.
+    ensures memory { (command : Command) → AskFor words.now command → NeverLacksMemory result command }
     // Status 2 is that of words that ask for nothing.
     ensures words { (result.status ≡ 2) ↔ AskForNothing words.now }
     // What holds of every command.

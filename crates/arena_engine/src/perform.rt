@@ -1,7 +1,7 @@
 ghost use Rattle.std.specs.Prelude.{◌≡◌, ◌↔◌, IfSome, None};
 ghost use Rattle.arena_engine.specs.Commands.{HasRanges};
 ghost use Rattle.arena_engine.specs.Endings.{Ends};
-ghost use Rattle.arena_engine.specs.Served.{IsServed, HasNoOrder};
+ghost use Rattle.arena_engine.specs.Served.{IsServed, HasNoOrder, NeverLacksMemory};
 ghost use Rattle.move_phase.specs.Serving.{AreWorkers};
 
 use crate::command::Command;
@@ -52,6 +52,7 @@ pub fn perform<R: Threads + Wait + Sync, S: Source, K: Sink, G: Gate>(
     requires { IfSome command HasRanges }
     ensures served { IfSome command (IsServed S.Source K.Sink source.old source.new sink.old sink.new result) }
     ensures orders { IfSome command (HasNoOrder result) }
+    ensures memory { IfSome command (NeverLacksMemory result) }
     ensures no_order { result.status ≡ 2 → result.order ≡ None }
     ensures words { (result.status ≡ 2) ↔ (command ≡ None) }
     ensures ends { Ends S.Source K.Sink source.old source.new sink.old sink.new result }

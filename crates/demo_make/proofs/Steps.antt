@@ -10,7 +10,7 @@ use Rattle.demo_make.specs.declared.sending.Sending.{Sending}
 use Rattle.demo_make.specs.declared.sending.Sending.TheVariants.{Once, Repeated}
 use Rattle.demo_make.specs.GeneratedFrames.{join_from, move_in, joins_in, ports}
 use Rattle.demo_make.specs.ResentFrames.{repeat_from}
-use Rattle.demo_make.specs.Remaining.{packets_of, frame_of, Progress, sender_in, with_one_sent, comes_in, IsLost, end_unless, left_of}
+use Rattle.demo_make.specs.Remaining.{packets_of, frame_of, Progress, sender_in, with_one_sent, comes_in, IsLost, end_unless, events_left, left_of}
 
 abbrev pub place : Sending → ℕ → ℕ → ℕ → ℕ → ℕ → ℕ → Bool → Progress
 place sending seed players opened frames joins moves ended = record {
@@ -26,7 +26,7 @@ place sending seed players opened frames joins moves ended = record {
 
 -- ---- the first of each
 
-range-first : (n k : ℕ) → 0 < k → k ≤ n → range_with_len (n - k + 1) k ≡ (n - k + 1) ∷ range_with_len (n - (k - 1) + 1) (k - 1)
+pub range-first : (n k : ℕ) → 0 < k → k ≤ n → range_with_len (n - k + 1) k ≡ (n - k + 1) ∷ range_with_len (n - (k - 1) + 1) (k - 1)
 range-first n zero some few = absurd (omega arith)
 range-first n (suc k) some few =
     let e : suc k - 1 ≡ k = omega arith in
@@ -42,29 +42,38 @@ no_packets Repeated seed players frames frame = refl
 pub left-join : (sending : Sending) (seed players opened frames joins moves : ℕ) (ended : Bool) → 0 < joins → joins ≤ players
     → left_of (place sending seed players opened frames joins moves ended)
     ≡ events.From (join_from (players - joins + 1)) ∷ left_of (place sending seed players opened frames (joins - 1) moves ended)
-unfolding left_of
+unfolding events_left
 left-join sending seed players opened frames joins moves ended some few = rw (range-first players joins some few) refl
 
 pub left-once : (seed players opened frames joins moves : ℕ) (ended : Bool) → joins ≡ 0 → 0 < moves → moves ≤ players
     → left_of (place Once seed players opened frames joins moves ended)
     ≡ events.From (move_in seed players (opened - 1) (players - moves + 1)) ∷ left_of (place Once seed players opened frames joins (moves - 1) ended)
-unfolding left_of
+unfolding events_left
 left-once seed players opened frames joins moves ended none some few = rw none (rw (range-first players moves some few) refl)
 
 pub left-again : (p : Progress) → p.sending ≡ Repeated → p.joins ≡ 0 → 0 < p.moves → p.moves ≤ p.players → comes_in p ≡ true
     → left_of p ≡ events.From (repeat_from p.seed p.players (p.opened - 1) (sender_in p)) ∷ left_of (with_one_sent p)
-unfolding left_of
+unfolding events_left
 left-again p repeated none some few comes =
     rw repeated (rw none (rw (range-first p.players p.moves some few) (rw comes refl)))
 
 pub left-lost : (p : Progress) → p.joins ≡ 0 → p.moves ≤ p.players → IsLost p → left_of p ≡ left_of (with_one_sent p)
-unfolding left_of
+unfolding events_left
 left-lost p none few lost =
     rw lost.repeated (rw none (rw (range-first p.players p.moves lost.some few) (rw lost.lost refl)))
 
 -- how many joins are left in a frame that was just opened
 abbrev pub joins_of : ℕ → ℕ → ℕ
 joins_of players opened = cond (eqb opened 0) players 0
+
+-- the events of a frame and those after it, in the parts in which they are given
+pub frame-parts : (js ps : List Arrival) (later rest : List Event)
+    → (frame_events (js ++ ps) ++ later) ++ rest ≡ events.Frame ∷ map events.From js ++ (map events.From ps ++ (later ++ rest))
+frame-parts js ps later rest =
+    ap (λ (es : List Event). (events.Frame ∷ es ++ later) ++ rest) (map-append events.From js ps)
+    ∙ ap (λ (es : List Event). events.Frame ∷ es)
+    (append_assoc (map events.From js ++ map events.From ps) later rest
+    ∙ append_assoc (map events.From js) (map events.From ps) (later ++ rest))
 
 joins-range : (players : ℕ) (first : Bool)
     → cond first (map join_from (ports players)) []
@@ -75,7 +84,7 @@ joins-range players false = refl
 pub left-open : (sending : Sending) (seed players opened frames joins moves : ℕ) (ended : Bool) → joins ≡ 0 → moves ≡ 0 → 0 < frames
     → left_of (place sending seed players opened frames joins moves ended)
     ≡ events.Frame ∷ left_of (place sending seed players (opened + 1) (frames - 1) (joins_of players opened) players ended)
-unfolding left_of
+unfolding events_left
 left-open sending seed players opened zero joins moves ended no_join no_move some = absurd (omega arith)
 left-open sending seed players opened (suc more) joins moves ended no_join no_move some =
     let all = opened + suc more in
@@ -87,26 +96,23 @@ left-open sending seed players opened (suc more) joins moves ended no_join no_mo
     let ps = packets_of sending seed players all opened (ports players) in
     let later = flat_map frame_events (map (frame_of sending seed players all) (range_with_len (opened + 1) more)) in
     rw no_join (rw no_move (rw (no_packets sending seed players all (opened - 1)) (rw same (rw less (rw now (rw one
-    (ap (λ (es : List Event). (events.Frame ∷ es ++ later) ++ end_unless ended) (map-append events.From js ps)
-    ∙ ap (λ (es : List Event). events.Frame ∷ es)
-    (append_assoc (map events.From js ++ map events.From ps) later (end_unless ended)
-    ∙ append_assoc (map events.From js) (map events.From ps) (later ++ end_unless ended)
-    ∙ ap (λ (arrivals : List Arrival). map events.From arrivals ++ (map events.From ps ++ (later ++ end_unless ended))) (joins-range players (eqb opened 0))))))))))
+    (frame-parts js ps later (end_unless ended)
+    ∙ ap (λ (arrivals : List Arrival). events.Frame ∷ map events.From arrivals ++ (map events.From ps ++ (later ++ end_unless ended))) (joins-range players (eqb opened 0)))))))))
 
 pub left-end : (sending : Sending) (seed players opened frames joins moves : ℕ) → joins ≡ 0 → moves ≡ 0 → frames ≡ 0
     → left_of (place sending seed players opened frames joins moves false) ≡ events.End ∷ left_of (place sending seed players opened frames joins moves true)
-unfolding left_of
+unfolding events_left
 left-end sending seed players opened frames joins moves no_join no_move no_frame =
     rw no_join (rw no_move (rw no_frame (rw (no_packets sending seed players (opened + 0) (opened - 1)) refl)))
 
 pub left-done : (sending : Sending) (seed players opened frames joins moves : ℕ) → joins ≡ 0 → moves ≡ 0 → frames ≡ 0
     → left_of (place sending seed players opened frames joins moves true) ≡ []
-unfolding left_of
+unfolding events_left
 left-done sending seed players opened frames joins moves no_join no_move no_frame =
     rw no_join (rw no_move (rw no_frame (rw (no_packets sending seed players (opened + 0) (opened - 1)) refl)))
 
 pub left-start : (sending : Sending) (seed players frames : ℕ)
     → left_of (place sending seed players 0 frames 0 0 false) ≡ recording_events (map (frame_of sending seed players frames) (range_with_len 0 frames))
-unfolding left_of
+unfolding events_left
 left-start sending seed players frames =
     let all : 0 + frames ≡ frames = omega arith in rw all (rw (no_packets sending seed players frames (0 - 1)) refl)

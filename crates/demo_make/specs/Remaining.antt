@@ -1,4 +1,4 @@
--- What a generator has still to give, from where it is.
+-- What an iterator over the events of a recording has still to give, and a generator, from where it is.
 use Rattle.std.specs.Prelude.{◌≡◌, ◌<◌, false, ℕ, ◌+◌, ◌-◌, Bool, List, [], ◌∷◌, ◌++◌, map, filter, flat_map, if◌then◌else◌}
 use Rattle.std.specs.List.{range_with_len}
 use Rattle.packet_read.specs.declared.arrival.Arrival.{Arrival}
@@ -59,6 +59,26 @@ frame_of sending seed players frames frame =
 
 -- ---- what is left
 
+-- the joins and the packets with commands of the open frame that are left, the frames after it, and whether the end was
+-- given
+pub record Left : Type 0 where
+  pub joins : List Arrival
+  pub packets : List Arrival
+  pub frames : List (List Arrival)
+  pub ended : Bool
+
+-- the end, until it was given
+abbrev pub end_unless : Bool → List Event
+end_unless ended = if ended then [] else events.End ∷ []
+
+-- its events: the joins and the packets of the open frame, the frames after it, and the end
+unfoldable pub events_left : Left → List Event
+events_left left =
+    map events.From left.joins
+    ++ (map events.From left.packets ++ (flat_map frame_events left.frames ++ end_unless left.ended))
+
+-- ---- of a generator
+
 -- where a generator is: how it sends commands, the seed, how many players there are, how many frames were opened, how
 -- many are left, how many joins and moves of the open one are left, and whether the end was given
 pub record Progress : Type 0 where
@@ -115,15 +135,14 @@ packets_left p =
 abbrev pub frames_left : Progress → List (List Arrival)
 frames_left p = map (frame_of p.sending p.seed p.players (frames_in p)) (range_with_len p.opened p.frames)
 
--- the end, until it was given
-abbrev pub end_unless : Bool → List Event
-end_unless ended = if ended then [] else events.End ∷ []
-
--- the events that are left: the joins and the packets of the open frame, the frames after it, and the end
-unfoldable pub left_of : Progress → List Event
-left_of p =
-    map events.From (joins_left p)
-    ++ (map events.From (packets_left p) ++ (flat_map frame_events (frames_left p) ++ end_unless p.ended))
+-- the events that are left
+abbrev pub left_of : Progress → List Event
+left_of p = events_left (record {
+  joins = joins_left p;
+  packets = packets_left p;
+  frames = frames_left p;
+  ended = p.ended;
+})
 
 -- where this generator is
 abbrev pub progress_of : Generator → Progress

@@ -2,6 +2,7 @@
 #![tactic(auto)]
 
 pub use arena::generated_map;
+pub use events::Events;
 pub use generated_event::GeneratedEvent;
 pub use generator::{Generator, words_of};
 pub use laws::{
@@ -12,10 +13,10 @@ pub use laws::{
 pub use make_stop::MakeStop;
 pub use map_lines::{MAP_LINES, map_line};
 pub use moves::drawn_move;
-pub use text::{LONGEST_EVENT, push_event};
-pub use writing::{make, make_room, resend};
+pub use writing::{make, resend, write_events};
 
 mod arena;
+mod events;
 mod generated_event;
 mod generator;
 mod last_words;

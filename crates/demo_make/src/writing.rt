@@ -8,6 +8,7 @@ ghost use Rattle.demo_make.specs.ResentFrames.{resent_text};
 ghost use Rattle.demo_make.specs.Remaining.{remaining_events, events_text, text_with};
 ghost use Rattle.demo_make.specs.Passing.{PassesFront};
 
+use crate::events::Events;
 use crate::generator::Generator;
 use crate::make_stop::MakeStop;
 use crate::text::{LONGEST_EVENT, push_event, push_map};
@@ -15,7 +16,7 @@ use edge_io::{Failed, LineBuf, ROOM, Sink, write_whole};
 use std::alloc::Global;
 
 /// Writes the text that was gathered, where it has no room for one more line.
-pub fn make_room<K: Sink>(sink: &mut K, text: &mut LineBuf) -> Result<(), Failed>
+fn make_room<K: Sink>(sink: &mut K, text: &mut LineBuf) -> Result<(), Failed>
     ensures free { OnOk result (length text.new + LONGEST_EVENT ≤ ROOM) }
     ensures ok { OnOk result (PassesFront (K.taken sink.old) (K.taken sink.new) text.old text.new) }
     ensures err { OnErr result (AppendsPart (K.taken sink.old) (K.taken sink.new) text.old) }
@@ -34,18 +35,22 @@ pub fn make_room<K: Sink>(sink: &mut K, text: &mut LineBuf) -> Result<(), Failed
 }
 
 /// Writes the text that was gathered and then the lines of the events, a buffer of them at a time.
-fn write_events<K: Sink>(sink: &mut K, text: &mut LineBuf, events: Generator) -> Result<(), Failed>
+pub fn write_events<K: Sink, E: Events + Drop>(
+    sink: &mut K,
+    text: &mut LineBuf,
+    events: E,
+) -> Result<(), Failed>
     ensures ok { OnOk result
-        (Appends (K.taken sink.old) (K.taken sink.new) (text.old ++ events_text (remaining_events events))) }
+        (Appends (K.taken sink.old) (K.taken sink.new) (text.old ++ events_text (E.left events))) }
     ensures err { OnErr result
-        (AppendsPart (K.taken sink.old) (K.taken sink.new) (text.old ++ events_text (remaining_events events))) }
+        (AppendsPart (K.taken sink.old) (K.taken sink.new) (text.old ++ events_text (E.left events))) }
 
     ensures later { K.faults sink.old ≤ K.faults sink.new }
     ensures fault { OnErr result (HasRisen (K.faults sink.old) (K.faults sink.new)) }
     ensures uncounted { OnOk result (K.faults sink.new ≡ K.faults sink.old) }
-    ensures sure { length (text.old ++ events_text (remaining_events events)) ≤ K.room sink.old → IsOk result }
+    ensures sure { length (text.old ++ events_text (E.left events)) ≤ K.room sink.old → IsOk result }
     ensures room { OnOk result (K.room sink.old
-        ≤ K.room sink.new + length (text.old ++ events_text (remaining_events events))) }
+        ≤ K.room sink.new + length (text.old ++ events_text (E.left events))) }
 {
     for event in events {
         make_room(sink, text)?;

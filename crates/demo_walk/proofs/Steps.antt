@@ -1,63 +1,34 @@
 -- What a walk has left before and after each event.
-use Rattle.std.proofs.Common.{◌≡◌, ℕ, zero, suc, ◌+◌, ◌-◌, ◌<◌, ◌≤◌, Bool, true, false, List, [], ◌∷◌, ◌++◌, map, flat_map, refl, sym, ap, ◌∙◌, arith, append_assoc}
+use Rattle.std.proofs.Common.{◌≡◌, ℕ, zero, suc, ◌+◌, ◌-◌, ◌<◌, ◌≤◌, Bool, true, false, List, [], ◌∷◌, ◌++◌, map, flat_map, refl, sym, ap, ◌∙◌, arith}
 use Rattle.std.specs.List.{range_with_len}
-use Rattle.std.proofs.lemmas.List.{map-append}
 use Rattle.packet_read.specs.declared.arrival.Arrival.{Arrival}
 use Rattle.demo_lines.specs.declared.event.Event.{Event}
 use Rattle.demo_lines.specs.declared.event.Event.TheVariants as events
 use Rattle.demo_lines.specs.Spelling.{frame_events, recording_events}
 use Rattle.demo_make.specs.GeneratedFrames.{join_from, ports}
-use Rattle.demo_make.specs.Remaining.{end_unless}
+use Rattle.demo_make.specs.Remaining.{end_unless, events_left}
+use Rattle.demo_make.proofs.Steps.{range-first, frame-parts}
 use Rattle.demo_walk.specs.WalkedFrames.{joined_by, joined_before, joins_in, move_in, moves_in, walked_in, walked_frames}
-use Rattle.demo_walk.specs.Remaining.{Progress, left_of}
+use Rattle.demo_walk.specs.Remaining.{left_after}
 use Rattle.demo_walk.proofs.Schedules.{joined-more}
-
-abbrev pub place : ℕ → ℕ → ℕ → ℕ → ℕ → ℕ → ℕ → ℕ → Bool → Progress
-place seed players places opened frames joined joins moves ended = record {
-  seed = seed;
-  players = players;
-  places = places;
-  opened = opened;
-  frames = frames;
-  joined = joined;
-  joins = joins;
-  moves = moves;
-  ended = ended;
-}
-
-range-first : (n k : ℕ) → 0 < k → k ≤ n → range_with_len (n - k + 1) k ≡ (n - k + 1) ∷ range_with_len (n - (k - 1) + 1) (k - 1)
-range-first n zero some few = absurd (omega arith)
-range-first n (suc k) some few =
-    let e : suc k - 1 ≡ k = omega arith in
-    let next : n - suc k + 1 + 1 ≡ n - k + 1 = omega arith in
-    rw e (ap (λ first. (n - suc k + 1) ∷ range_with_len first k) next)
 
 -- ---- packets
 
 pub left-join : (seed players places opened frames joined joins moves : ℕ) (ended : Bool) → 0 < joins → joins ≤ joined
-    → left_of (place seed players places opened frames joined joins moves ended)
-    ≡ events.From (join_from (joined - joins + 1)) ∷ left_of (place seed players places opened frames joined (joins - 1) moves ended)
-unfolding left_of
+    → events_left (left_after seed players places opened frames joined joins moves ended)
+    ≡ events.From (join_from (joined - joins + 1)) ∷ events_left (left_after seed players places opened frames joined (joins - 1) moves ended)
+unfolding events_left
 left-join seed players places opened frames joined joins moves ended some few = rw (range-first joined joins some few) refl
 
 pub left-move : (seed players places opened frames joined joins moves : ℕ) (ended : Bool) → joins ≡ 0 → 0 < moves → moves ≤ joined
-    → left_of (place seed players places opened frames joined joins moves ended)
+    → events_left (left_after seed players places opened frames joined joins moves ended)
     ≡ events.From (move_in seed players places (opened - 1) (joined - moves + 1))
-    ∷ left_of (place seed players places opened frames joined joins (moves - 1) ended)
-unfolding left_of
+    ∷ events_left (left_after seed players places opened frames joined joins (moves - 1) ended)
+unfolding events_left
 left-move seed players places opened frames joined joins moves ended none some few =
     rw none (rw (range-first joined moves some few) refl)
 
 -- ---- a frame
-
--- the events of a frame and those after it, in the parts that a walk gives
-frame-parts : (js ms : List Arrival) (later rest : List Event)
-    → (frame_events (js ++ ms) ++ later) ++ rest ≡ events.Frame ∷ map events.From js ++ (map events.From ms ++ (later ++ rest))
-frame-parts js ms later rest =
-    ap (λ (es : List Event). (events.Frame ∷ es ++ later) ++ rest) (map-append events.From js ms)
-    ∙ ap (λ (es : List Event). events.Frame ∷ es)
-    (append_assoc (map events.From js ++ map events.From ms) later rest
-    ∙ append_assoc (map events.From js) (map events.From ms) (later ++ rest))
 
 -- the joins of the frame that is opened, from where the walk is then
 joins-open : (before by joined now : ℕ) → joined ≡ before → before ≤ by → now ≡ by
@@ -81,9 +52,9 @@ moves-open seed players places opened by now same =
 
 pub left-open : (seed players places opened frames joined joins moves now : ℕ) (ended : Bool) → joins ≡ 0 → moves ≡ 0 → 0 < frames
     → joined ≡ joined_before places players opened → now ≡ joined_by places players opened
-    → left_of (place seed players places opened frames joined joins moves ended)
-    ≡ events.Frame ∷ left_of (place seed players places (opened + 1) (frames - 1) now (now - joined) now ended)
-unfolding left_of
+    → events_left (left_after seed players places opened frames joined joins moves ended)
+    ≡ events.Frame ∷ events_left (left_after seed players places (opened + 1) (frames - 1) now (now - joined) now ended)
+unfolding events_left
 left-open seed players places opened zero joined joins moves now ended no_join no_move some is same = absurd (omega arith)
 left-open seed players places opened (suc more) joined joins moves now ended no_join no_move some is same =
     let js = joins_in players places opened in
@@ -102,17 +73,17 @@ left-open seed players places opened (suc more) joined joins moves now ended no_
 -- ---- the end
 
 pub left-end : (seed players places opened frames joined joins moves : ℕ) → joins ≡ 0 → moves ≡ 0 → frames ≡ 0
-    → left_of (place seed players places opened frames joined joins moves false)
-    ≡ events.End ∷ left_of (place seed players places opened frames joined joins moves true)
-unfolding left_of
+    → events_left (left_after seed players places opened frames joined joins moves false)
+    ≡ events.End ∷ events_left (left_after seed players places opened frames joined joins moves true)
+unfolding events_left
 left-end seed players places opened frames joined joins moves no_join no_move no_frame = rw no_join (rw no_move (rw no_frame refl))
 
 pub left-done : (seed players places opened frames joined joins moves : ℕ) → joins ≡ 0 → moves ≡ 0 → frames ≡ 0
-    → left_of (place seed players places opened frames joined joins moves true) ≡ []
-unfolding left_of
+    → events_left (left_after seed players places opened frames joined joins moves true) ≡ []
+unfolding events_left
 left-done seed players places opened frames joined joins moves no_join no_move no_frame = rw no_join (rw no_move (rw no_frame refl))
 
 pub left-start : (seed players places frames : ℕ)
-    → left_of (place seed players places 0 frames 0 0 0 false) ≡ recording_events (walked_frames seed players places frames)
-unfolding left_of
+    → events_left (left_after seed players places 0 frames 0 0 0 false) ≡ recording_events (walked_frames seed players places frames)
+unfolding events_left
 left-start seed players places frames = refl

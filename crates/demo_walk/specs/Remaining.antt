@@ -1,62 +1,24 @@
 -- What a walk has still to give, from where it is.
-use Rattle.std.specs.Prelude.{ℕ, ◌+◌, ◌-◌, Bool, List, ◌++◌, map, flat_map}
+use Rattle.std.specs.Prelude.{ℕ, ◌+◌, ◌-◌, Bool, List, map}
 use Rattle.std.specs.List.{range_with_len}
-use Rattle.packet_read.specs.declared.arrival.Arrival.{Arrival}
 use Rattle.demo_lines.specs.declared.event.Event.{Event}
-use Rattle.demo_lines.specs.declared.event.Event.TheVariants as events
-use Rattle.demo_lines.specs.Spelling.{frame_events}
 use Rattle.demo_make.specs.GeneratedFrames.{join_from}
-use Rattle.demo_make.specs.Remaining.{end_unless}
+use Rattle.demo_make.specs.Remaining.{Left, events_left}
 use Rattle.demo_walk.specs.declared.walk.Walk.{Walk}
 use Rattle.demo_walk.specs.WalkedFrames.{move_in, walked_in}
 
--- where a walk is: the seed, how many players there are, how many places the map has, how many frames were opened, how
--- many are left, how many players have sent their joins by the open one, how many joins and moves of it are left, and
--- whether the end was given
-pub record Progress : Type 0 where
-  pub seed : ℕ
-  pub players : ℕ
-  pub places : ℕ
-  pub opened : ℕ
-  pub frames : ℕ
-  pub joined : ℕ
-  pub joins : ℕ
-  pub moves : ℕ
-  pub ended : Bool
-
--- the joins of the open frame that are left
-abbrev pub joins_left : Progress → List Arrival
-joins_left p = map join_from (range_with_len (p.joined - p.joins + 1) p.joins)
-
--- the moves of the open frame that are left
-abbrev pub moves_left : Progress → List Arrival
-moves_left p =
-    map (move_in p.seed p.players p.places (p.opened - 1)) (range_with_len (p.joined - p.moves + 1) p.moves)
-
--- the frames that are left
-abbrev pub frames_left : Progress → List (List Arrival)
-frames_left p = map (walked_in p.seed p.players p.places) (range_with_len p.opened p.frames)
-
--- the events that are left: the joins and the moves of the open frame, the frames after it, and the end
-unfoldable pub left_of : Progress → List Event
-left_of p =
-    map events.From (joins_left p)
-    ++ (map events.From (moves_left p) ++ (flat_map frame_events (frames_left p) ++ end_unless p.ended))
-
--- where this walk is
-abbrev pub progress_of : Walk → Progress
-progress_of w = record {
-  seed = w.seed;
-  players = w.players;
-  places = w.places;
-  opened = w.opened;
-  frames = w.frames_left;
-  joined = w.joined;
-  joins = w.joins_left;
-  moves = w.moves_left;
-  ended = w.ended;
+-- what is left of the recording of this seed, of so many players on a map with so many places, where so many frames were
+-- opened and so many are left, so many players have sent their joins by the open one, so many joins and moves of it are
+-- left, and the end was given or wasn't
+abbrev pub left_after : (seed players places opened frames joined joins moves : ℕ) → Bool → Left
+left_after seed players places opened frames joined joins moves ended = record {
+  joins = map join_from (range_with_len (joined - joins + 1) joins);
+  packets = map (move_in seed players places (opened - 1)) (range_with_len (joined - moves + 1) moves);
+  frames = map (walked_in seed players places) (range_with_len opened frames);
+  ended = ended;
 }
 
 -- the events that a walk has still to give
 abbrev pub remaining_events : Walk → List Event
-remaining_events w = left_of (progress_of w)
+remaining_events w =
+    events_left (left_after w.seed w.players w.places w.opened w.frames_left w.joined w.joins_left w.moves_left w.ended)

@@ -4,7 +4,7 @@ ghost use Rattle.demo_make.specs.Words.{state_after};
 ghost use Rattle.demo_walk.specs.WalkedFrames.{joined_before, words_before};
 
 use crate::schedule::joined_by;
-use demo_make::{GeneratedEvent, drawn_move, words_of};
+use demo_make::{Events, GeneratedEvent, drawn_move, words_of};
 use packet_read::{Packet, write_packet};
 use rand_xoshiro::SplitMix64;
 use rand_xoshiro::rand_core::utils::NextWord;
@@ -135,4 +135,16 @@ impl Iterator for Walk {
         self.ended = true;
         Some(GeneratedEvent::End)
     }
+}
+
+impl Events for Walk {
+    ghost use Rattle.demo_walk.specs.Remaining.{remaining_events};
+
+    ghost left = { remaining_events };
+
+    ghost can = { λ s. tt };
+
+    ghost gives = { λ s event t given. given };
+
+    ghost ends = { λ s. tt };
 }

@@ -16,30 +16,9 @@ use crate::places::place_count;
 use crate::walk::Walk;
 use arena_map::ArenaMap;
 use bot_ways::spell_map;
-use demo_make::{MakeStop, make_room, push_event};
+use demo_make::{MakeStop, write_events};
 use edge_io::{Failed, LineBuf, Sink, write_whole};
 use std::alloc::Global;
-
-/// Writes the text that was gathered and then the lines of the events, a buffer of them at a time.
-fn write_events<K: Sink>(sink: &mut K, text: &mut LineBuf, events: Walk) -> Result<(), Failed>
-    ensures ok { OnOk result
-        (Appends (K.taken sink.old) (K.taken sink.new) (text.old ++ events_text (remaining_events events))) }
-    ensures err { OnErr result
-        (AppendsPart (K.taken sink.old) (K.taken sink.new) (text.old ++ events_text (remaining_events events))) }
-
-    ensures later { K.faults sink.old ≤ K.faults sink.new }
-    ensures fault { OnErr result (HasRisen (K.faults sink.old) (K.faults sink.new)) }
-    ensures uncounted { OnOk result (K.faults sink.new ≡ K.faults sink.old) }
-    ensures sure { length (text.old ++ events_text (remaining_events events)) ≤ K.room sink.old → IsOk result }
-    ensures room { OnOk result (K.room sink.old
-        ≤ K.room sink.new + length (text.old ++ events_text (remaining_events events))) }
-{
-    for event in events {
-        make_room(sink, text)?;
-        push_event(text, &event);
-    }
-    write_whole(sink, text.as_slice())
-}
 
 /// How many frames there are of so many: none where the map has no spawn, since none may come there.
 fn frames_for(map: &ArenaMap, frames: u32) -> u32

@@ -16,6 +16,8 @@ play N                       plays the recording on standard input on N workers
 feed N                       the same, where two client threads send the packets
 make SEED PLAYERS FRAMES     writes the recording of a seed
 resend SEED PLAYERS FRAMES   the same, where packets are lost and commands resent
+walk SEED PLAYERS FRAMES     reads the lines of a map, and writes a recording
+                             in which players join and walk on it
 match SEED PLAYERS FRAMES N  plays the recording of make, and writes its totals
 bots TARGET                  reads a recording, and writes one in which a bot
                              walks the shortest way to spawn TARGET

@@ -1,19 +1,19 @@
-use Rattle.std.proofs.Common.{◌++◌, ap, ◌∙◌, subst, arith, length, length-append}
+use Rattle.std.proofs.Common.{Some, None, ◌++◌, ap, ◌∙◌, subst, arith, length, length-append}
 use Rattle.std.proofs.lemmas.Result.{err_from_is_err_and}
 use Rattle.std.specs.Io.KnownBytes.{Appends}
 use Rattle.edge_io.specs.Writes.{AppendsPart}
 use Rattle.edge_io.proofs.Writing.{IsWritten}
-use Rattle.demo_make.specs.Remaining.{event_of, event_text, remaining_events, events_text}
+use Rattle.demo_make.specs.Remaining.{event_of, event_text, events_text}
 use Rattle.demo_make.proofs.Passed.{passed, gathered, passed-part, passed-all, on_ok, on_err}
 use Rattle.demo_make.proofs.writing.write_events.Goals as goal
 
 pub loop-event-preserved : goal.loop-event-preserved
 loop-event-preserved g c =
     let old = g.K.Sink.taken c.args.sink.now in
-    let whole = c.args.text.now ++ events_text (remaining_events c.into_iter-event-iterator.result) in
-    let step = c.in-Some.ensures.steps in
+    let whole = c.args.text.now ++ events_text (g.E.Events.left c.into_iter-event-iterator.result) in
+    let step = g.met.E.Events.gives c.loop-event.event-iterator (Some c.in-Some.event) c.next.new.self c.in-Some.ensures.steps in
     let line = event_text (event_of c.in-Some.event) in
-    let more = events_text (remaining_events c.next.new.self) in
+    let more = events_text (g.E.Events.left c.next.new.self) in
     let kept = c.make_room.new.text in
     let texts = ap events_text step in
     let split = ap (λ t. c.loop-event.text ++ t) texts in
@@ -37,12 +37,12 @@ loop-event-preserved g c =
 pub returns-in_err-make_room-clause-err : goal.returns-in_err-make_room-clause-err
 returns-in_err-make_room-clause-err g c =
     let p = err_from_is_err_and c.from_residual.result c.from_residual.ensures.1 in
-    let whole = c.args.text.now ++ events_text (remaining_events c.into_iter-event-iterator.result) in
-    let same = ap (λ e. c.args.text.now ++ events_text (remaining_events e)) c.into_iter-event-iterator.ensures.into_iter_gives in
+    let whole = c.args.text.now ++ events_text (g.E.Events.left c.into_iter-event-iterator.result) in
+    let same = ap (λ e. c.args.text.now ++ events_text (g.E.Events.left e)) c.into_iter-event-iterator.ensures.into_iter_gives in
     rw p.1
     (subst (AppendsPart (g.K.Sink.taken c.args.sink.now) (g.K.Sink.taken c.make_room.new.sink)) same
     (passed-part (g.K.Sink.taken c.args.sink.now) (g.K.Sink.taken c.loop-event.sink) (g.K.Sink.taken c.make_room.new.sink) whole
-    c.loop-event.text (events_text (remaining_events c.loop-event.event-iterator)) c.loop-event.invariant.written c.in_err-make_room.ensures.err))
+    c.loop-event.text (events_text (g.E.Events.left c.loop-event.event-iterator)) c.loop-event.invariant.written c.in_err-make_room.ensures.err))
 
 pub returns-clause-ok : goal.returns-clause-ok
 returns-clause-ok g c =
@@ -50,11 +50,11 @@ returns-clause-ok g c =
     let now = g.K.Sink.taken c.loop-event.sink in
     let new = g.K.Sink.taken c.write_whole.new.sink in
     let text = c.loop-event.text in
-    let whole = c.args.text.now ++ events_text (remaining_events c.into_iter-event-iterator.result) in
-    let same = ap (λ e. c.args.text.now ++ events_text (remaining_events e)) c.into_iter-event-iterator.ensures.into_iter_gives in
-    let none = ap (λ es. text ++ events_text es) c.in-None.ensures.steps.0 in
+    let whole = c.args.text.now ++ events_text (g.E.Events.left c.into_iter-event-iterator.result) in
+    let same = ap (λ e. c.args.text.now ++ events_text (g.E.Events.left e)) c.into_iter-event-iterator.ensures.into_iter_gives in
+    let none = ap (λ es. text ++ events_text es) (g.met.E.Events.gives c.loop-event.event-iterator None c.next.new.self c.in-None.ensures.steps).0 in
     let written = subst (IsWritten old now whole) none c.loop-event.invariant.written in
-    on_ok (Appends now new c.as_slice.result.now) (Appends old new (c.args.text.now ++ events_text (remaining_events c.args.events))) c.write_whole.result
+    on_ok (Appends now new c.as_slice.result.now) (Appends old new (c.args.text.now ++ events_text (g.E.Events.left c.args.events))) c.write_whole.result
     (λ h. subst (Appends old new) same (passed-all old now new whole text written (subst (Appends now new) c.as_slice.ensures.value h)))
     c.write_whole.ensures.ok
 
@@ -64,10 +64,10 @@ returns-clause-err g c =
     let now = g.K.Sink.taken c.loop-event.sink in
     let new = g.K.Sink.taken c.write_whole.new.sink in
     let text = c.loop-event.text in
-    let whole = c.args.text.now ++ events_text (remaining_events c.into_iter-event-iterator.result) in
-    let same = ap (λ e. c.args.text.now ++ events_text (remaining_events e)) c.into_iter-event-iterator.ensures.into_iter_gives in
-    on_err (AppendsPart now new c.as_slice.result.now) (AppendsPart old new (c.args.text.now ++ events_text (remaining_events c.args.events))) c.write_whole.result
+    let whole = c.args.text.now ++ events_text (g.E.Events.left c.into_iter-event-iterator.result) in
+    let same = ap (λ e. c.args.text.now ++ events_text (g.E.Events.left e)) c.into_iter-event-iterator.ensures.into_iter_gives in
+    on_err (AppendsPart now new c.as_slice.result.now) (AppendsPart old new (c.args.text.now ++ events_text (g.E.Events.left c.args.events))) c.write_whole.result
     (λ h. subst (AppendsPart old new) same
-    (passed-part old now new whole text (events_text (remaining_events c.loop-event.event-iterator)) c.loop-event.invariant.written
+    (passed-part old now new whole text (events_text (g.E.Events.left c.loop-event.event-iterator)) c.loop-event.invariant.written
     (subst (AppendsPart now new) c.as_slice.ensures.value h)))
     c.write_whole.ensures.err
