@@ -3,7 +3,7 @@ use Rattle.entity_recs.specs.Records.{IsRecord}
 use Rattle.core_steps.specs.Nodes.{home, inner_of_two}
 use Rattle.core_steps.specs.Points.{Resolving}
 use Rattle.core_steps.specs.Reads.{View, effect_loaded, record_read}
-use Rattle.core_seats.proofs.Rooms.{before_is_record, loaded_is_record}
+use Rattle.core_seats.proofs.SoundRecords.{before_is_record, loaded_is_record}
 use Rattle.ruled_words.specs.Passes.{PassView, fixed_in}
 use Rattle.ruled_words.specs.Writing.{nodes_written}
 use Rattle.ruled_words.proofs.Claims.{is_claimed, claimed_still, stores_come, slot_still, has_written, none_refused_stored, refusals_written, written_all, written_none_refused, written_refusals}
