@@ -4,4 +4,3 @@ pub mod EndedLogs
 pub mod Runs
 pub mod PassRuns
 pub mod NewPasses
-pub mod Causes

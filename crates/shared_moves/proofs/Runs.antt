@@ -24,6 +24,7 @@ use Rattle.shared_moves.specs.declared.gate_point.GatePoint.TheVariants.{Leaves,
 use Rattle.shared_moves.specs.InHand.{HoldsLeavesAlone, is_checking, item_of}
 use Rattle.shared_moves.specs.Moments.{IsAtPoint}
 use Rattle.shared_moves.specs.Runs.{HoldsLeavesOf, HasReadAll, HasMoved, HasLeft, HasInHand, all_read}
+use Rattle.ruled_words.proofs.GivingUp.{none_refused_yet}
 use Rattle.ruled_words.proofs.LoadedWords.{visiting_same}
 use Rattle.ruled_words.proofs.TriedTakes.{more_again, more_still, tried_again}
 
@@ -37,9 +38,6 @@ some_entry a b e = cc
 -- what refusals say of a view, they say of one with the same
 pub refusals_kept : (r : Refusals) (v w : View) → v.refusals ≡ w.refusals → v.refused ≡ w.refused → AreRefusals r v → AreRefusals r w
 refusals_kept r v w count last are = record { count = are.count ∙ count; last = are.last ∙ last }
-
-pub none_since : (a b c : PassView) → NoTakeWasRefused a b → NoTakeWasRefused b c → NoTakeWasRefused a c
-none_since a b c x y = record { refusals = y.refusals ∙ x.refusals; refused = y.refused ∙ x.refused; listed = y.listed ∙ x.listed }
 
 pub none_at : (old new : PassView) (v : View) (t : Tally) → new ≡ in_view_with old v t → v.refusals ≡ old.view.refusals → v.refused ≡ old.view.refused → t.refused ≡ old.tally.refused
     → NoTakeWasRefused old new
@@ -168,7 +166,7 @@ module _ (F : Fixed) (c : Command) (held : Held) (words : List ℕ) (q : Point) 
     at_read = read.hand ∙ ap (λ (p : PassView). in_view_with p (all_read p.view h3.view) h3.tally) at_again
 
     pub none_read : NoTakeWasRefused h0 h1 → NoTakeWasRefused h2 h3 → NoTakeWasRefused h0 h3
-    none_read one two = none_since h0 h2 h3 (none_since h0 h1 h2 one none_again) two
+    none_read one two = none_refused_yet h0 h2 h3 (none_refused_yet h0 h1 h2 one none_again) two
 
     pub in_hand_read : NoTakeWasRefused h0 h1 → NoTakeWasRefused h2 h3 → HasInHand c h0 h3
     in_hand_read one two =
@@ -202,7 +200,7 @@ module _ (F : Fixed) (c : Command) (held : Held) (words : List ℕ) (q : Point) 
         at_end = gives ∙ ap (λ (p : PassView). in_view p (without_command p.view)) at_written
 
         pub none_end : NoTakeWasRefused h0 h1 → NoTakeWasRefused h2 h3 → NoTakeWasRefused h3 h4 → NoTakeWasRefused h0 h5
-        none_end one two three = none_since h0 h4 h5 (none_since h0 h3 h4 (none_read one two) three) (none_at h4 h5 _ _ gives refl refl refl)
+        none_end one two three = none_refused_yet h0 h4 h5 (none_refused_yet h0 h3 h4 (none_read one two) three) (none_at h4 h5 _ _ gives refl refl refl)
 
         pub refusals_end : (r : Refusals) → AreRefusals r h4.view → AreRefusals r h5.view
         refusals_end r are = refusals_kept r h4.view h5.view (sym (ap (λ (p : PassView). p.view.refusals) gives)) (sym (ap (λ (p : PassView). p.view.refused) gives)) are

@@ -140,7 +140,9 @@ pub fn walk<A: Action, P: Patience, G: Gate>(
 {
     let held = hold_leaves(words, patience, hand, refusals, cmd, gate)?;
     let again = words.own_again(hand, cmd.slot);
-    let effect = read_region(words, patience, hand, refusals, near, cmd, &held, &again, gate)?;
+    let effect = read_region(
+        words, patience, hand, refusals, near, cmd, &held, &again, gate,
+    )?;
     let place = words.write_effect(patience, hand, refusals, &held, &again, &effect)?;
     let committed = Moment::at_commit(hand, cmd, entry_of(place, cmd, &effect));
     let entry = show_moment(committed, gate).unwrap();

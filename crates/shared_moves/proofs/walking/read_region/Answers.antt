@@ -1,6 +1,7 @@
 use Rattle.std.proofs.Common.{refl}
 use Rattle.ruled_words.specs.Passes.{fixed_in}
-use Rattle.shared_moves.proofs.Runs.{known_point, read_all, read_tally, read_refusals, none_since, none_at}
+use Rattle.ruled_words.proofs.GivingUp.{none_refused_yet}
+use Rattle.shared_moves.proofs.Runs.{known_point, read_all, read_tally, read_refusals, none_at}
 use Rattle.shared_moves.proofs.walking.read_region.Goals as goal
 
 pub at_effect-requires-clause-at : goal.at_effect-requires-clause-at
@@ -16,7 +17,7 @@ returns-clause-read g c = record {
 
 pub returns-clause-served : goal.returns-clause-served
 returns-clause-served g c at_once =
-    none_since c.args.hand.now c.read_nodes.new.hand c.read_effect-effect.new.hand (c.in_ok-seen.ensures.served at_once)
+    none_refused_yet c.args.hand.now c.read_nodes.new.hand c.read_effect-effect.new.hand (c.in_ok-seen.ensures.served at_once)
     (none_at c.read_nodes.new.hand c.read_effect-effect.new.hand _ _ c.read_effect-effect.ensures.view refl refl refl)
 
 pub returns-clause-refusals : goal.returns-clause-refusals
