@@ -48,14 +48,32 @@ fn expect_walk(
 #[test]
 fn players_join_and_walk_on_a_map(rt: HostRuntime) -> Result<(), Fail> {
     expect_walk(&rt, &["walk", "7", "2", "3"], TWO, (0, 0, 0), TWO_WALKED)?;
-    expect_walk(&rt, &["walk", "7", "2", "2"], CLOSE, (0, 0, 0), CLOSE_WALKED)?;
-    expect_walk(&rt, &["walk", "7", "64", "9"], NO_SPAWN, (0, 0, 0), NO_SPAWN)?;
+    expect_walk(
+        &rt,
+        &["walk", "7", "2", "2"],
+        CLOSE,
+        (0, 0, 0),
+        CLOSE_WALKED,
+    )?;
+    expect_walk(
+        &rt,
+        &["walk", "7", "64", "9"],
+        NO_SPAWN,
+        (0, 0, 0),
+        NO_SPAWN,
+    )?;
     Ok(())
 }
 
 #[test]
 fn what_was_written_has_the_same_map(rt: HostRuntime) -> Result<(), Fail> {
-    expect_walk(&rt, &["walk", "7", "2", "3"], TWO_WALKED, (0, 0, 0), TWO_WALKED)?;
+    expect_walk(
+        &rt,
+        &["walk", "7", "2", "3"],
+        TWO_WALKED,
+        (0, 0, 0),
+        TWO_WALKED,
+    )?;
     Ok(())
 }
 
