@@ -10,12 +10,12 @@ use Rattle.ruled_words.specs.Passes.{PassView, IsPassOf, setting_of}
 use Rattle.ruled_words.specs.declared.setting.Setting.{Setting}
 use Rattle.ruled_words.specs.NewPasses.{first_pass, other_pass}
 use Rattle.shared_moves.specs.Closing.{HasNoCommand}
-use Rattle.region_locks.specs.Quitting.{MayBegin}
-use Rattle.region_locks.specs.Turns.{has_command_in_hand}
+use Rattle.shared_moves.specs.InHand.{MayBegin}
+use Rattle.region_locks.specs.Quitting.{has_command_in_hand}
 use Rattle.shared_moves.specs.declared.again.Again.{Again}
 use Rattle.shared_moves.specs.Moves.{HasRun, WasNotRun}
-use Rattle.trial_passes.specs.Trials.{IsFree, IsMoving, IsResting}
-use Rattle.region_locks.proofs.Running.{without_command}
+use Rattle.trial_passes.specs.Trials.{IsFree, IsResting}
+use Rattle.region_locks.proofs.Stepping.{without_command}
 
 -- the rooms of two passes, as large as each other
 abbrev pub rooms : ℕ → List ℕ
@@ -50,8 +50,8 @@ module _ (F : Fixed) (passes : ℕ) (table : TableId) (number : ℕ) (old new : 
   rests_after c e was run = record { own = run.own; number_is = run.number ∙ was.number_is; rests = run.rests }
 
 -- a pass that has no command in hand rests
-pub rests_now : (F : Fixed) (passes : ℕ) (table : TableId) (number : ℕ) (p : PassView) → IsMoving F passes table number p → has_command_in_hand p ≡ false → IsResting F passes table number p
-rests_now F passes table number p was none = record { own = was.going.own; number_is = was.number_is; rests = without_command p none }
+pub rests_now : (F : Fixed) (passes : ℕ) (table : TableId) (number : ℕ) (p : PassView) → IsPassOf F passes table p → p.number ≡ number → has_command_in_hand p ≡ false → IsResting F passes table number p
+rests_now F passes table number p own is none = record { own = own; number_is = is; rests = without_command p none }
 
 -- ---- two passes at the end
 

@@ -3,21 +3,16 @@ ghost use Rattle.world_tree.specs.Live.{live_in};
 ghost use Rattle.core_steps.specs.Nodes.{has};
 ghost use Rattle.core_steps.specs.Steps.{is_taking};
 ghost use Rattle.ruled_words.specs.Passes.{fixed_in, IsOwn};
-ghost use Rattle.region_locks.specs.Turns.{turn_of};
-ghost use Rattle.region_locks.specs.Quitting.{MayBegin};
-ghost use Rattle.region_locks.specs.Pursuits.{IsGoingOn};
-ghost use Rattle.trial_passes.specs.Trials.{IsFree, IsMoving, IsResting};
+ghost use Rattle.shared_moves.specs.InHand.{MayBegin};
+ghost use Rattle.trial_passes.specs.Trials.{IsFree, IsResting};
 
 use core_steps::{StepKind, node_word};
-use entity_recs::{Action, Cmd, Entry};
+use entity_recs::Action;
 use move_journal::LogList;
-use region_locks::{Again, Holder, NoGate, NodeTable, Pass, PassList, Turn, Went};
+use region_locks::{Holder, NodeTable, Pass, PassList};
 use std::alloc::{AllocError, Global};
 use std::test::Fail;
 use world_tree::World;
-
-/// The most calls that a pass makes for one move in a test.
-pub const MOST_CALLS: u16 = 200;
 
 /// A table of the world for two passes with room for so many entries each.
 pub fn table_of_two<'a, A: Action>(
@@ -38,40 +33,6 @@ pub fn table_of_two<'a, A: Action>(
     let second = passes.pop().ok_or("two passes")?;
     let first = passes.pop().ok_or("two passes")?;
     Ok((table, first, second))
-}
-
-/// Makes the pass's next call, which is to be none that is refused.
-pub fn go<A: Action>(table: &NodeTable<A>, pass: &mut Pass<A>, turn: Turn) -> Result<Went, Fail>
-    requires going { IsGoingOn (fixed_in A.meaning table.now) (length table.now.rooms)
-        table.now.table pass.old }
-    requires turn { turn_of (fixed_in A.meaning table.now) pass.old ≡ Some turn }
-    ensures going { IsGoingOn (fixed_in A.meaning table.now) (length table.now.rooms)
-        table.now.table pass.new }
-    ensures number { pass.new.number ≡ pass.old.number }
-{
-    match table.go_on(pass, turn) {
-        Ok(went) => Ok(went),
-        Err(_) => Err("a take was refused".into()),
-    }
-}
-
-/// Makes calls until pass 0 has no command in hand, and gives the place of the commit, if it was among them.
-pub fn finish<A: Action>(table: &NodeTable<A>, pass: &mut Pass<A>) -> Result<Option<u64>, Fail>
-    requires { IsMoving (fixed_in A.meaning table.now) (length table.now.rooms) table.now.table
-        0 pass.old }
-    ensures { IfOk result (λ _. IsResting (fixed_in A.meaning table.now)
-        (length table.now.rooms) table.now.table 0 pass.new) }
-{
-    let mut place = None;
-    for _ in 0..MOST_CALLS {
-        let Some(turn) = table.turn(pass) else {
-            return Ok(place);
-        };
-        if let Went::Committed(entry) = go(table, pass, turn)? {
-            place = Some(entry.place);
-        }
-    }
-    Err("no end".into())
 }
 
 /// Takes this node, which is the pass's next step.
@@ -110,38 +71,6 @@ pub fn give_up<A: Action>(table: &NodeTable<A>, pass: &mut Pass<A>) -> Result<()
         return Err("a step".into());
     };
     Ok(())
-}
-
-/// Tries a command with pass 1, and gives why it wasn't run.
-pub fn refused<A: Action>(table: &NodeTable<A>, pass: &mut Pass<A>, cmd: Cmd) -> Result<Again, Fail>
-    requires two { length table.now.rooms ≡ 2 }
-    requires live { has (fixed_in A.meaning table.now).start.ids cmd.slot ≡ true }
-    requires serves { cmd.slot % 2 ≡ 1 }
-    requires free { IsFree (fixed_in A.meaning table.now) (length table.now.rooms)
-        table.now.table 1 pass.old }
-    ensures { IfOk result (λ _. IsFree (fixed_in A.meaning table.now) (length table.now.rooms)
-        table.now.table 1 pass.new) }
-{
-    match table.try_run(pass, cmd, &NoGate) {
-        Ok(_) => Err("the command was run".into()),
-        Err(again) => Ok(again),
-    }
-}
-
-/// Tries a command with pass 1, and gives its entry.
-pub fn ran<A: Action>(table: &NodeTable<A>, pass: &mut Pass<A>, cmd: Cmd) -> Result<Entry, Fail>
-    requires two { length table.now.rooms ≡ 2 }
-    requires live { has (fixed_in A.meaning table.now).start.ids cmd.slot ≡ true }
-    requires serves { cmd.slot % 2 ≡ 1 }
-    requires free { IsFree (fixed_in A.meaning table.now) (length table.now.rooms)
-        table.now.table 1 pass.old }
-    ensures { IfOk result (λ _. IsResting (fixed_in A.meaning table.now)
-        (length table.now.rooms) table.now.table 1 pass.new) }
-{
-    match table.try_run(pass, cmd, &NoGate) {
-        Ok(entry) => Ok(entry),
-        Err(_) => Err("a node was held".into()),
-    }
 }
 
 /// The two passes as a list.

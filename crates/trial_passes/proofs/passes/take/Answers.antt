@@ -5,4 +5,4 @@ use Rattle.trial_passes.proofs.passes.take.Goals as goal
 
 pub take-requires-clause-next : goal.take-requires-clause-next
 take-requires-clause-next g c κs within =
-    takes_node (fixed_in g.A.Action.meaning c.args.table.now) c.args.pass.now _ c.args.node (sym c.next.ensures.step ∙ c.in-Some.is) c.in-Take.is (c.if-step-node_word.false ∙ c.node_word.ensures)
+    takes_node (fixed_in g.A.Action.meaning c.args.table.now) c.args.pass.now _ (sym c.next.ensures.step ∙ c.in-Some.is) c.args.node c.in-Take.is (c.if-step-node_word.false ∙ c.node_word.ensures)

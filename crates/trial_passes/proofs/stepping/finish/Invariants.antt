@@ -1,0 +1,5 @@
+use Rattle.ruled_words.specs.Passes.{IsOwn}
+use Rattle.trial_passes.proofs.stepping.finish.Given as goal
+
+abbrev pub invariant-loop : goal.invariant-loop
+invariant-loop g l = IsOwn g.A.Action.meaning l.table l.pass
