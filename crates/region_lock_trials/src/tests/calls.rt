@@ -4,13 +4,14 @@ ghost use Rattle.core_steps.specs.Nodes.{has};
 ghost use Rattle.core_steps.specs.Points.{Idle};
 ghost use Rattle.core_steps.specs.Steps.{is_taking};
 ghost use Rattle.ruled_words.specs.Passes.{fixed_in, IsOwn};
-ghost use Rattle.region_locks.specs.Quitting.{MayBegin};
+ghost use Rattle.shared_moves.specs.InHand.{MayBegin};
 ghost use Rattle.trial_passes.specs.Trials.{IsFree};
 
 use core_trials::{FIRST, NEAR, Staying};
 use entity_recs::{Action, Cmd};
 use move_journal::LogList;
-use region_locks::{Holder, NoGate, NodeTable, Pass};
+use region_locks::{NodeTable, Pass};
+use shared_moves::Holder;
 use std::alloc::AllocGlobal;
 use std::process::Abort;
 use std::test::Fail;
@@ -182,7 +183,7 @@ fn look_twice<A: Action>(
         table.now.table 1 second.old }
 {
     expect_count(rt, table, second, 0);
-    let Ok(entry) = table.try_run(first, plain(0), &NoGate) else {
+    let Ok(entry) = table.try_run(first, plain(0)) else {
         return Err("a refused take".into());
     };
     assert_eq!(rt; (entry.place, second.seen()), (0, 0));

@@ -1,12 +1,14 @@
 ghost use Rattle.std.specs.Prelude.{◌≡◌, true, length, Some, IfOk};
 ghost use Rattle.core_steps.specs.Nodes.{has};
-ghost use Rattle.ruled_words.specs.Passes.{fixed_in};
-ghost use Rattle.trial_passes.specs.Trials.{IsFree, IsMoving, IsResting};
+ghost use Rattle.ruled_words.specs.Passes.{fixed_in, IsOwn};
+ghost use Rattle.trial_passes.specs.Trials.{IsFree, IsResting};
 
+use core_steps::{StepKind, node_word};
 use core_trials::{FIRST, Staying};
 use entity_recs::{Action, Rec};
 use move_journal::{Log, LogList};
-use region_locks::{Again, NodeTable, Pass, Turn};
+use region_locks::{NodeTable, Pass};
+use shared_moves::Again;
 use std::alloc::AllocGlobal;
 use std::process::Abort;
 use std::test::Fail;
@@ -21,25 +23,30 @@ fn begin<A: Action>(table: &NodeTable<A>, pass: &mut Pass<A>)
     requires live { has (fixed_in A.meaning table.now).start.ids 0 ≡ true }
     requires free { IsFree (fixed_in A.meaning table.now) (length table.now.rooms)
         table.now.table 0 pass.old }
-    ensures { IsMoving (fixed_in A.meaning table.now) (length table.now.rooms) table.now.table
-        0 pass.new }
+    ensures { IsOwn A.meaning table.now pass.new }
 {
     table.begin(pass, plain(0));
 }
 
+/// Whether the pass takes the root next.
+fn takes_root<A: Action>(table: &NodeTable<A>, pass: &Pass<A>) -> bool
+    requires { IsOwn A.meaning table.now pass.now }
+{
+    match table.next(pass) {
+        Some(step) => step.kind == StepKind::Take && step.word == node_word(0),
+        None => false,
+    }
+}
+
 /// Makes the calls of pass 0 up to the take of the root, which it holds then.
 fn take_root<A: Action>(table: &NodeTable<A>, pass: &mut Pass<A>) -> Result<(), Fail>
-    requires { IsMoving (fixed_in A.meaning table.now) (length table.now.rooms) table.now.table
-        0 pass.old }
-    ensures { IfOk result (λ _. IsMoving (fixed_in A.meaning table.now) (length table.now.rooms)
-        table.now.table 0 pass.new) }
+    requires { IsOwn A.meaning table.now pass.old }
+    ensures { IfOk result (λ _. IsOwn A.meaning table.now pass.new) }
 {
     for _ in 0..MOST_CALLS {
-        let Some(turn) = table.turn(pass) else {
-            return Err("the root wasn't taken".into());
-        };
-        go(table, pass, turn)?;
-        if matches!(turn, Turn::Take(0)) {
+        let is_last = takes_root(table, pass);
+        go(table, pass)?;
+        if is_last {
             return Ok(());
         }
     }
@@ -74,8 +81,7 @@ fn run_first<A: Action>(
 ) -> Result<(), Fail>
     requires two { length table.now.rooms ≡ 2 }
     requires live { has (fixed_in A.meaning table.now).start.ids 1 ≡ true }
-    requires first { IsMoving (fixed_in A.meaning table.now) (length table.now.rooms)
-        table.now.table 0 first.old }
+    requires first { IsOwn A.meaning table.now first.old }
     requires second { IsFree (fixed_in A.meaning table.now) (length table.now.rooms)
         table.now.table 1 second.old }
     ensures first { IfOk result (λ _. IsResting (fixed_in A.meaning table.now)

@@ -5,18 +5,21 @@ ghost use Rattle.arena_actions.specs.MapActions.{meaning_in};
 ghost use Rattle.world_tree.specs.Live.{live_in};
 ghost use Rattle.core_steps.specs.Nodes.{has};
 ghost use Rattle.ruled_words.specs.Passes.{fixed_in, IsOwn};
-ghost use Rattle.trial_passes.specs.Trials.{IsFree, IsMoving, IsResting};
+ghost use Rattle.trial_passes.specs.Trials.{IsFree, IsResting};
 
 use super::{arena, at};
 use arena_actions::MapAction;
 use arena_geo::Vec3;
 use arena_map::{ArenaMap, MapLine, MapRefusal};
 use entity_recs::{Action, Cmd, Entry, Kind, PLAYER_MAXS, PLAYER_MINS, Rec, body_box};
-use region_locks::{Again, Holder, NodeTable, Pass, Turn, Went};
+use region_locks::{NodeTable, Pass};
+use shared_moves::{Again, Holder};
 use std::alloc::{AllocGlobal, Global};
 use std::process::Abort;
 use std::test::Fail;
-use trial_passes::{close_both, finish, give_up, go, ran, refused, table_of_two, take};
+use trial_passes::{
+    MOST_CALLS, close_both, finish, give_up, go, ran, refused, table_of_two, take,
+};
 use world_tree::World;
 
 /// A player with ammunition, in slot 0, whose move pass 0 runs.
@@ -68,9 +71,6 @@ const FIRST_LEAVES: u32 = 0x5f00;
 
 /// The node of leaf 8.
 const NODE_OF_LEAF_8: u8 = 23;
-
-/// The most calls that a pass makes for one move here.
-const MOST_CALLS: u16 = 200;
 
 /// A move of 50 ms with a wish along x and the button for shots.
 fn shot(slot: u8, wish_x: i16) -> Cmd
@@ -129,24 +129,18 @@ fn begin<A: Action>(table: &NodeTable<A>, pass: &mut Pass<A>)
     requires live { has (fixed_in A.meaning table.now).start.ids 0 ≡ true }
     requires free { IsFree (fixed_in A.meaning table.now) (length table.now.rooms) table.now.table 0
         pass.old }
-    ensures { IsMoving (fixed_in A.meaning table.now) (length table.now.rooms) table.now.table 0
-        pass.new }
+    ensures { IsOwn A.meaning table.now pass.new }
 {
     table.begin(pass, shot(0, -1));
 }
 
 /// Makes the calls of pass 0 up to the commit, and gives the entry. Nothing is written yet.
 fn commit<A: Action>(table: &NodeTable<A>, pass: &mut Pass<A>) -> Result<Entry, Fail>
-    requires { IsMoving (fixed_in A.meaning table.now) (length table.now.rooms) table.now.table 0
-        pass.old }
-    ensures { IfOk result (λ _. IsMoving (fixed_in A.meaning table.now) (length table.now.rooms)
-        table.now.table 0 pass.new) }
+    requires { IsOwn A.meaning table.now pass.old }
+    ensures { IfOk result (λ _. IsOwn A.meaning table.now pass.new) }
 {
     for _ in 0..MOST_CALLS {
-        let Some(turn) = table.turn(pass) else {
-            return Err("no commit".into());
-        };
-        if let Went::Committed(entry) = go(table, pass, turn)? {
+        if let Some(entry) = go(table, pass)? {
             return Ok(entry);
         }
     }
@@ -218,17 +212,15 @@ fn hold_first<A: Action>(
     requires two { length table.now.rooms ≡ 2 }
     requires one { has (fixed_in A.meaning table.now).start.ids 1 ≡ true }
     requires three { has (fixed_in A.meaning table.now).start.ids 3 ≡ true }
-    requires first { IsMoving (fixed_in A.meaning table.now) (length table.now.rooms) table.now.table
-        0 first.old }
+    requires first { IsOwn A.meaning table.now first.old }
     requires second { IsFree (fixed_in A.meaning table.now) (length table.now.rooms) table.now.table
         1 second.old }
-    ensures first { IfOk result (λ _. IsMoving (fixed_in A.meaning table.now)
-        (length table.now.rooms) table.now.table 0 first.new) }
+    ensures first { IfOk result (λ _. IsOwn A.meaning table.now first.new) }
     ensures second { IfOk result (λ _. IsFree (fixed_in A.meaning table.now)
         (length table.now.rooms) table.now.table 1 second.new) }
 {
     let entry = commit(table, first)?;
-    assert_eq!(rt; table.turn(first), Some(Turn::Unlink));
+    assert!(rt; first.unlinks_next());
     let target = target_now(rt, table, second)?;
     assert_eq!(rt;
         target,
