@@ -9,3 +9,4 @@ mod resolve;
 mod step_word;
 mod stores;
 mod take;
+mod try_run;

@@ -2,7 +2,6 @@
 //! of steps. So two passes can be interleaved at any step.
 #![tactic(auto)]
 
-pub use holder::Holder;
 pub use pass::Pass;
 pub use ruled_words::{
     closed_table_is_its_run, ended_seats_keep_the_rule, held_words_name_their_holder,
@@ -14,7 +13,6 @@ pub use table::{NodeTable, PassList};
 mod calls;
 mod close;
 mod follow;
-mod holder;
 mod leaves;
 mod owed;
 mod pass;

@@ -30,7 +30,7 @@ pub enum Again {
 }
 
 /// Why a move wasn't run, by the take that was refused, where this is the first leaf's node.
-pub(crate) fn again_after(refused: &Refused, first_leaf: u8) -> Again
+pub fn again_after(refused: &Refused, first_leaf: u8) -> Again
     requires { refused.now.word ≢ 0 }
     ensures { (F : Fixed) (passes own : ℕ) (c : Command) (number leaves : ℕ) → first_leaf ≡ inner_nodes F
         → IsRefusedBy F passes own c (refused_of refused.now) number leaves

@@ -1,7 +1,7 @@
 //! Moves on threads: each worker runs its moves on the shared words, and what they did is a history.
 #![tactic(auto)]
 
-pub use again::Again;
+pub use again::{Again, again_after};
 pub use gate::{Gate, NoGate};
 pub use gate_point::GatePoint;
 pub use holder::{Holder, holder_in};

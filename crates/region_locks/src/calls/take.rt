@@ -4,12 +4,12 @@ ghost use Rattle.ruled_words.specs.Holders.{IsOtherHolder, IsReached};
 ghost use Rattle.ruled_words.specs.Passes.{fixed_in, IsHolderIn, first_effect, IsOwn, next_in, after_in};
 ghost use Rattle.ruled_words.specs.Passes.{node_taken_next, node_given_next, list_read_next, state_read_next};
 
-use crate::holder::{Holder, holder_in};
 use crate::pass::Pass;
 use crate::table::NodeTable;
 use core_steps::{FIRST_STATE_WORD, list_word, node_word};
 use entity_recs::{Action, Effect};
 use ruled_words::WordStep;
+use shared_moves::{Holder, holder_in};
 
 /// Whether one of two effects is there: the one that is kept, or the one in view.
 fn is_in_hand(kept: &Option<Effect>, in_view: &Option<Effect>) -> bool
