@@ -1,5 +1,5 @@
 -- What a move as one walk leaves of its pass: the hand, and the seat in plain values after it.
-use Rattle.std.proofs.Common.{◌≡◌, ℕ, suc, ◌≤◌, false, [], ◌∷◌, ◌++◌, refl, sym, ap, ◌∙◌, subst, inl, inr, Option, None, arith}
+use Rattle.std.proofs.Common.{◌≡◌, ℕ, suc, ◌≤◌, false, [], ◌∷◌, ◌++◌, sym, ap, ◌∙◌, subst, inl, inr, Option, None, arith}
 use Rattle.std.proofs.lemmas.Bool.{cases_Bool, false≢true}
 use Rattle.atomic_table.specs.Seated.{TableId}
 use Rattle.entity_recs.specs.declared.effect.Effect.{Effect}
@@ -22,8 +22,8 @@ use Rattle.shared_moves.specs.declared.again.Again.{Again}
 use Rattle.shared_moves.specs.InHand.{MayBegin, item_of}
 use Rattle.shared_moves.specs.Moves.{HasRun, IsCause, WasNotRun}
 use Rattle.shared_moves.specs.Runs.{HasMoved, HasLeft, done_with}
-use Rattle.shared_moves.proofs.PassRuns.{hand_own, pass_ran, was_not_run}
-use Rattle.region_locks.specs.PassLists.{HasItsLists, pass_view}
+use Rattle.shared_moves.proofs.PassRuns.{pass_ran, was_not_run}
+use Rattle.region_locks.specs.PassLists.{pass_view}
 
 -- ---- the seat in plain values
 
@@ -107,7 +107,7 @@ module _ (F : Fixed) (passes : ℕ) (table : TableId) (p hand : PassView) (seat 
       → view_of after ≡ done_with c e hand.view done.view → HasRun F passes table p (pass_view done after effect) c e
   has_run done after c e moved own_done given quits follows =
       let done_pass = done_is done after (ap (λ (q : PassView). q.given) moved.hand) (ap (λ (q : PassView). q.quits) moved.hand) (ap (λ (q : PassView). q.effect) moved.hand) given quits
-          (follows ∙ sym (ap (λ (q : PassView). q.view) moved.hand)) in
+      (follows ∙ sym (ap (λ (q : PassView). q.view) moved.hand)) in
       let ran : HasRun F passes table (plain_pass hand) done c e = pass_ran F passes table (plain_pass hand) plain_own plain_free done c e (record {
         hand = moved.hand;
         begun = moved.begun;

@@ -17,9 +17,7 @@ use shared_moves::{Again, Holder};
 use std::alloc::{AllocGlobal, Global};
 use std::process::Abort;
 use std::test::Fail;
-use trial_passes::{
-    MOST_CALLS, close_both, finish, give_up, go, ran, refused, table_of_two, take,
-};
+use trial_passes::{MOST_CALLS, close_both, finish, give_up, go, ran, refused, table_of_two, take};
 use world_tree::World;
 
 /// A player with ammunition, in slot 0, whose move pass 0 runs.

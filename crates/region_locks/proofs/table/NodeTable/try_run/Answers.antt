@@ -1,4 +1,4 @@
-use Rattle.std.proofs.Common.{◌≡◌, ◌+◌, ◌≤◌, ◌++◌, ◌∷◌, [], suc, Some, refl, sym, ap, ◌∙◌, subst, length, Option, arith}
+use Rattle.std.proofs.Common.{◌≡◌, ◌+◌, ◌≤◌, ◌++◌, ◌∷◌, [], suc, Some, refl, sym, ap, ◌∙◌, subst, length, Option}
 use Rattle.std.specs.Prelude.{option_copied}
 use Rattle.std.specs.Option.{option_map}
 use Rattle.entity_recs.specs.declared.cmd.Cmd.{Cmd}
@@ -12,7 +12,6 @@ use Rattle.ruled_words.specs.GivingUp.{IsRefusedBy}
 use Rattle.ruled_words.specs.Hands.{plain_pass}
 use Rattle.ruled_words.specs.Passes.{PassView, TableView, IsPassOf, fixed_in, sight_of}
 use Rattle.ruled_words.specs.Plays.{IsSoundSight}
-use Rattle.ruled_words.specs.declared.setting.Setting.{Setting}
 use Rattle.ruled_words.proofs.Owns.{looked_own}
 use Rattle.shared_moves.specs.InHand.{item_of}
 use Rattle.shared_moves.specs.Moves.{IsCause}
@@ -104,14 +103,15 @@ returns-in-Err-clause-err g c =
     let looked_left = left_looked F count cmd inside.hand new looked found left c.look_on-pass-inside.ensures.hand c.look_on-pass-inside.ensures.seen in
     let own_looked = looked_own F count c.args.self.now.table new looked found c.look_on-pass-inside.ensures.hand own_new
     (subst (λ (t : TableView _). IsSoundSight (fixed_in g.A.Action.meaning t) (length t.rooms) (sight_of looked)) c.self.view_is c.look_on-pass-inside.ensures.sound_sight) in
-    let last : last_of c.walk.new.refusals ≡ Some left.r = noted.last ∙ ap (λ (q : PassView). q.view.refused) left.hand in
-    let kept : refused_of c.unwrap-refused.result.now ≡ left.r =
-    is_noted c.walk.new.refusals left.r c.unwrap-refused.result.now last (sym (ap option_copied c.unwrap-refused.ensures) ∙ c.as_ref.ensures.value) in
+    let last : last_of c.walk.new.refusals ≡ Some looked_left.r =
+    noted.last ∙ sym (ap (λ (q : PassView). q.view.refused) c.look_on-pass-inside.ensures.hand) ∙ ap (λ (q : PassView). q.view.refused) looked_left.hand in
+    let kept : refused_of c.unwrap-refused.result.now ≡ looked_left.r =
+    is_noted c.walk.new.refusals looked_left.r c.unwrap-refused.result.now last (sym (ap option_copied c.unwrap-refused.ensures) ∙ c.as_ref.ensures.value) in
     let first : c.first_leaf.result ≡ inner_nodes F = subst (λ (t : TableView _). c.first_leaf.result ≡ inner_nodes (fixed_in g.A.Action.meaning t)) c.self.view_is c.first_leaf.ensures.value in
-    let cause : IsCause F count inside.hand.number cmd left.r c.again_after.result =
+    let cause : IsCause F count inside.hand.number cmd looked_left.r c.again_after.result =
     subst (λ (r : Refused). IsCause F count inside.hand.number cmd r c.again_after.result) kept
-    (c.again_after.ensures F count inside.hand.number cmd left.holder left.leaves first
-    (subst (λ (r : Refused). IsRefusedBy F count inside.hand.number cmd r left.holder left.leaves) (sym kept) left.fault)) in
+    (c.again_after.ensures F count inside.hand.number cmd looked_left.holder looked_left.leaves first
+    (subst (λ (r : Refused). IsRefusedBy F count inside.hand.number cmd r looked_left.holder looked_left.leaves) (sym kept) looked_left.fault)) in
     was_left F count c.args.self.now.table c.args.pass.now inside.hand inside.seat inside.effect c.pass.view_is c.pass.invariant.same_view c.requires.own c.requires.free
-    looked _ cmd c.again_after.result looked_left own_looked cause
+    looked (record c.forget.new.self { seen = found; refusals = c.walk.new.refusals }) cmd c.again_after.result looked_left own_looked cause
     (ap (λ (o : Option Cmd). option_map command_of o) c.forget.ensures.given) c.forget.ensures.quits follows
