@@ -1,25 +1,11 @@
--- New hands have new seats, and so have the passes that are made of them.
+-- New hands have new seats.
 use Rattle.std.proofs.Common.{◌≡◌, ℕ, zero, suc, ◌+◌, ◌-◌, ◌<◌, ◌≤◌, List, [], ◌∷◌, map, length, refl, sym, ap, ◌∙◌, subst, arith, slice_index, drop, None}
 use Rattle.std.specs.List.{range_with_len}
-use Rattle.std.specs.Option.{option_map}
 use Rattle.atomic_table.specs.Seated.{TableId}
-use Rattle.entity_recs.specs.Commands.{command_of}
-use Rattle.core_machine.specs.declared.seat.Seat as seats
-use Rattle.core_machine.specs.Seats.{IsFresh}
 use Rattle.ruled_words.specs.Passes.{PassView}
 use Rattle.ruled_words.specs.NewPasses.{new_passes, other_pass, view_with_made}
 use Rattle.ruled_words.specs.declared.setting.Setting.{Setting}
-use Rattle.region_locks.specs.PassLists.{IsNew, AreNew, pass_view}
-
--- the pass of a new hand with a new seat beside it is the hand
-pub new_pass_is : (records room made : ℕ) (hand : PassView) (seat : seats.Seat) → IsNew records room made hand → IsFresh room made records seat
-    → pass_view hand seat None ≡ hand
-new_pass_is records room made hand seat new fresh = λ i. record hand {
-  given = (ap (option_map command_of) fresh.given ∙ sym new.plain.given) i;
-  quits = (fresh.quits ∙ sym new.plain.quits) i;
-  effect = sym new.plain.effect i;
-  view = (fresh.view ∙ sym new.view) i;
-}
+use Rattle.region_locks.specs.PassLists.{IsNew, AreNew}
 
 -- the next hand, with its room, and those after it
 pub record IsNextNew (records made k : ℕ) (rooms : List ℕ) (hand : PassView) (rest : List PassView) : Type 0 where

@@ -7,9 +7,10 @@ ghost use Rattle.shared_moves.specs.InHand.{MayBegin};
 ghost use Rattle.trial_passes.specs.Trials.{IsFree, IsResting};
 
 use core_steps::{StepKind, node_word};
-use entity_recs::Action;
+use entity_recs::{Action, Cmd, Entry};
 use move_journal::LogList;
-use region_locks::{Holder, NodeTable, Pass, PassList};
+use region_locks::{NodeTable, Pass, PassList};
+use shared_moves::{Again, Holder};
 use std::alloc::{AllocError, Global};
 use std::test::Fail;
 use world_tree::World;
@@ -71,6 +72,38 @@ pub fn give_up<A: Action>(table: &NodeTable<A>, pass: &mut Pass<A>) -> Result<()
         return Err("a step".into());
     };
     Ok(())
+}
+
+/// Tries a command with pass 1, and gives why it wasn't run.
+pub fn refused<A: Action>(table: &NodeTable<A>, pass: &mut Pass<A>, cmd: Cmd) -> Result<Again, Fail>
+    requires two { length table.now.rooms ≡ 2 }
+    requires live { has (fixed_in A.meaning table.now).start.ids cmd.slot ≡ true }
+    requires serves { cmd.slot % 2 ≡ 1 }
+    requires free { IsFree (fixed_in A.meaning table.now) (length table.now.rooms)
+        table.now.table 1 pass.old }
+    ensures { IfOk result (λ _. IsFree (fixed_in A.meaning table.now) (length table.now.rooms)
+        table.now.table 1 pass.new) }
+{
+    match table.try_run(pass, cmd) {
+        Ok(_) => Err("the command was run".into()),
+        Err(again) => Ok(again),
+    }
+}
+
+/// Tries a command with pass 1, and gives its entry.
+pub fn ran<A: Action>(table: &NodeTable<A>, pass: &mut Pass<A>, cmd: Cmd) -> Result<Entry, Fail>
+    requires two { length table.now.rooms ≡ 2 }
+    requires live { has (fixed_in A.meaning table.now).start.ids cmd.slot ≡ true }
+    requires serves { cmd.slot % 2 ≡ 1 }
+    requires free { IsFree (fixed_in A.meaning table.now) (length table.now.rooms)
+        table.now.table 1 pass.old }
+    ensures { IfOk result (λ _. IsResting (fixed_in A.meaning table.now)
+        (length table.now.rooms) table.now.table 1 pass.new) }
+{
+    match table.try_run(pass, cmd) {
+        Ok(entry) => Ok(entry),
+        Err(_) => Err("a node was held".into()),
+    }
 }
 
 /// The two passes as a list.
