@@ -106,12 +106,5 @@ waits_on (Ok x) err = refl
 waits_on (Err e) err = absurd (false≢true (sym err))
 
 -- the last refused take in plain values is the one in view
-pub some_noted : (r : Refusals) (o : Refused) → last_of r ≡ Some o → is_some r.last ≡ true
-some_noted r o last = by_last r.last last
-  where
-    by_last : (x : Option noted.Refused) → option_map refused_of x ≡ Some o → is_some x ≡ true
-    by_last None is = cc
-    by_last (Some x) is = refl
-
 pub is_noted : (r : Refusals) (o : Refused) (x : noted.Refused) → last_of r ≡ Some o → Some x ≡ r.last → refused_of x ≡ o
 is_noted r o x last is = same_Some (refused_of x) o (ap (option_map refused_of) is ∙ last)

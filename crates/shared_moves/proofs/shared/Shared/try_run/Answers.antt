@@ -10,7 +10,7 @@ use Rattle.ruled_words.specs.Passes.{PassView, TableView, IsPassOf, fixed_in}
 use Rattle.shared_moves.specs.Moves.{IsCause}
 use Rattle.shared_moves.specs.PassParts.{IsKeptBeside}
 use Rattle.shared_moves.specs.Runs.{HasMoved, HasLeft}
-use Rattle.shared_moves.proofs.PassRuns.{hand_own, near_room, pass_ran, was_not_run, some_noted, is_noted}
+use Rattle.shared_moves.proofs.PassRuns.{hand_own, near_room, pass_ran, was_not_run, is_noted}
 use Rattle.shared_moves.proofs.shared.Shared.try_run.Goals as goal
 
 pub walk-requires-clause-own : goal.walk-requires-clause-own
@@ -24,11 +24,6 @@ walk-requires-clause-room g c κs within =
     subst (λ (t : TableView _). 64 + length (fixed_in g.A.Action.meaning t).start.ids ≤ c.pass.inside.near.room) (sym c.self.view_is)
     (near_room (fixed_in g.A.Action.meaning c.args.self.now) (length c.args.self.now.rooms) c.args.self.now.table c.args.pass.now c.pass.inside.log c.pass.inside.refusals c.pass.inside.near c.requires.own
     (subst (λ (p : PassView). IsKeptBeside p c.pass.inside.log c.pass.inside.refusals c.pass.inside.near) c.pass.view_is c.pass.invariant))
-
-pub unwrap-refused-requires : goal.unwrap-refused-requires
-unwrap-refused-requires g c =
-    let left : HasLeft (fixed_in g.A.Action.meaning c.self.inside.words) (length c.self.inside.words.rooms) (command_of c.args.cmd) c.pass.inside.hand c.walk.new.hand = c.in-Err.ensures.left in
-    c.as_ref.ensures.variant ∙ some_noted c.walk.new.refusals left.r ((c.walk.ensures.refusals c.pass.invariant.refusals_are).last ∙ ap (λ (q : PassView). q.view.refused) left.hand)
 
 pub returns-in-Ok-clause-ok : goal.returns-in-Ok-clause-ok
 returns-in-Ok-clause-ok g c =
