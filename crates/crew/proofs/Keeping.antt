@@ -49,7 +49,7 @@ module _ {T : Type 0} (may_run : T → Type 0) (changes : T → T → Type 0) wh
   -- a step of the leader, by whose turn it is
   leads : (id : ℕ) (given : Option T) (c : List (ℕ × T)) (f : ℕ → ℕ) (then : ℕ → Me T (View T) → Type 0)
       → ((word : ℕ) (home : mathlib.Core.Option.Option T) (begun : Option T) → IsTurn may_run changes word home given begun
-          → Goes 0 (leading given, c) f then (table_of word home (leading given ∷ helping begun ∷ [])))
+      → Goes 0 (leading given, c) f then (table_of word home (leading given ∷ helping begun ∷ [])))
       → (s : State T (View T)) → Ruled s → get_elem? s.views id ≡ some (leading given) → Goes id (leading given, c) f then s
   leads id given c f then steps s (is_alone x e) at =
       absurd (not_alone id (leading given) (λ (same : 0 ≡ 2). omega arith) (subst (λ (t : State T (View T)). get_elem? t.views id ≡ some (leading given)) e at))
@@ -59,18 +59,18 @@ module _ {T : Type 0} (may_run : T → Type 0) (changes : T → T → Type 0) wh
       (at_two new (helping None) (leading given) id (subst (λ (t : State T (View T)). get_elem? t.views id ≡ some (leading given)) e at))
   leads id given c f then steps s (is_paired word home other begun turn e) at = ⊎_elim
       (λ (h : (id ≡ 0) × (leading other ≡ leading given)).
-          let same : other ≡ given = ap (λ (v : View T). v.item) h.1 in
-          subst (Goes id (leading given, c) f then) (sym e)
-          (subst (λ (i : ℕ). Goes i (leading given, c) f then (table_of word home (leading other ∷ helping begun ∷ []))) (sym h.0)
-          (subst (λ (o : Option T). Goes 0 (leading given, c) f then (table_of word home (leading o ∷ helping begun ∷ []))) (sym same)
-          (steps word home begun (subst (λ (o : Option T). IsTurn may_run changes word home o begun) same turn)))))
+      let same : other ≡ given = ap (λ (v : View T). v.item) h.1 in
+      subst (Goes id (leading given, c) f then) (sym e)
+      (subst (λ (i : ℕ). Goes i (leading given, c) f then (table_of word home (leading other ∷ helping begun ∷ []))) (sym h.0)
+      (subst (λ (o : Option T). Goes 0 (leading given, c) f then (table_of word home (leading o ∷ helping begun ∷ []))) (sym same)
+      (steps word home begun (subst (λ (o : Option T). IsTurn may_run changes word home o begun) same turn)))))
       (λ (h : (id ≡ 1) × (helping begun ≡ leading given)). let ranks : 3 ≡ 2 = ap (rank_of {T = T}) h.1 in absurd (omega arith))
       (at_two (leading other) (helping begun) (leading given) id (subst (λ (t : State T (View T)). get_elem? t.views id ≡ some (leading given)) e at))
 
   -- a step of the helper, by whose turn it is
   helps : (id : ℕ) (begun : Option T) (c : List (ℕ × T)) (f : ℕ → ℕ) (then : ℕ → Me T (View T) → Type 0)
       → ((word : ℕ) (home : mathlib.Core.Option.Option T) (given : Option T) → IsTurn may_run changes word home given begun
-          → Goes 1 (helping begun, c) f then (table_of word home (leading given ∷ helping begun ∷ [])))
+      → Goes 1 (helping begun, c) f then (table_of word home (leading given ∷ helping begun ∷ [])))
       → ((x : T) → begun ≡ None → Goes 1 (helping begun, c) f then (table_of 0 (some x) (new ∷ helping begun ∷ [])))
       → (s : State T (View T)) → Ruled s → get_elem? s.views id ≡ some (helping begun) → Goes id (helping begun, c) f then s
   helps id begun c f then steps first s (is_alone x e) at =
@@ -78,20 +78,20 @@ module _ {T : Type 0} (may_run : T → Type 0) (changes : T → T → Type 0) wh
   helps id begun c f then steps first s (is_new x e) at = ⊎_elim
       (λ (h : (id ≡ 0) × (new ≡ helping begun)). let ranks : 1 ≡ 3 = ap (rank_of {T = T}) h.1 in absurd (omega arith))
       (λ (h : (id ≡ 1) × (helping None ≡ helping begun)).
-          let same : None ≡ begun = ap (λ (v : View T). v.item) h.1 in
-          subst (Goes id (helping begun, c) f then) (sym e)
-          (subst (λ (i : ℕ). Goes i (helping begun, c) f then (table_of 0 (some x) (new ∷ helping None ∷ []))) (sym h.0)
-          (subst (λ (o : Option T). Goes 1 (helping begun, c) f then (table_of 0 (some x) (new ∷ helping o ∷ []))) (sym same)
-          (first x (sym same)))))
+      let same : None ≡ begun = ap (λ (v : View T). v.item) h.1 in
+      subst (Goes id (helping begun, c) f then) (sym e)
+      (subst (λ (i : ℕ). Goes i (helping begun, c) f then (table_of 0 (some x) (new ∷ helping None ∷ []))) (sym h.0)
+      (subst (λ (o : Option T). Goes 1 (helping begun, c) f then (table_of 0 (some x) (new ∷ helping o ∷ []))) (sym same)
+      (first x (sym same)))))
       (at_two new (helping None) (helping begun) id (subst (λ (t : State T (View T)). get_elem? t.views id ≡ some (helping begun)) e at))
   helps id begun c f then steps first s (is_paired word home given other turn e) at = ⊎_elim
       (λ (h : (id ≡ 0) × (leading given ≡ helping begun)). let ranks : 2 ≡ 3 = ap (rank_of {T = T}) h.1 in absurd (omega arith))
       (λ (h : (id ≡ 1) × (helping other ≡ helping begun)).
-          let same : other ≡ begun = ap (λ (v : View T). v.item) h.1 in
-          subst (Goes id (helping begun, c) f then) (sym e)
-          (subst (λ (i : ℕ). Goes i (helping begun, c) f then (table_of word home (leading given ∷ helping other ∷ []))) (sym h.0)
-          (subst (λ (o : Option T). Goes 1 (helping begun, c) f then (table_of word home (leading given ∷ helping o ∷ []))) (sym same)
-          (steps word home given (subst (λ (o : Option T). IsTurn may_run changes word home given o) same turn)))))
+      let same : other ≡ begun = ap (λ (v : View T). v.item) h.1 in
+      subst (Goes id (helping begun, c) f then) (sym e)
+      (subst (λ (i : ℕ). Goes i (helping begun, c) f then (table_of word home (leading given ∷ helping other ∷ []))) (sym h.0)
+      (subst (λ (o : Option T). Goes 1 (helping begun, c) f then (table_of word home (leading given ∷ helping o ∷ []))) (sym same)
+      (steps word home given (subst (λ (o : Option T). IsTurn may_run changes word home given o) same turn)))))
       (at_two (leading given) (helping other) (helping begun) id (subst (λ (t : State T (View T)). get_elem? t.views id ≡ some (helping begun)) e at))
 
   -- where nothing is handed over, nothing is begun
@@ -137,9 +137,9 @@ module _ {T : Type 0} (may_run : T → Type 0) (changes : T → T → Type 0) wh
       absurd (not_alone id new (λ (same : 0 ≡ 1). omega arith) (subst (λ (t : State T (View T)). get_elem? t.views id ≡ some new) e at))
   opens_at id s (is_new x e) at = ⊎_elim
       (λ (h : (id ≡ 0) × (new ≡ new)).
-          subst (Goes id (new, []) (λ _. 0) (λ _ m. opened (new, []) 0 m)) (sym e)
-          (subst (λ (i : ℕ). Goes i (new, []) (λ _. 0) (λ _ m. opened (new, []) 0 m) (table_of 0 (some x) (new ∷ helping None ∷ []))) (sym h.0)
-          (leading None, takes 0 x, refl, is_paired 0 none None None (is_free refl refl refl refl) refl, record { kept = x; is = refl })))
+      subst (Goes id (new, []) (λ _. 0) (λ _ m. opened (new, []) 0 m)) (sym e)
+      (subst (λ (i : ℕ). Goes i (new, []) (λ _. 0) (λ _ m. opened (new, []) 0 m) (table_of 0 (some x) (new ∷ helping None ∷ []))) (sym h.0)
+      (leading None, takes 0 x, refl, is_paired 0 none None None (is_free refl refl refl refl) refl, record { kept = x; is = refl })))
       (λ (h : (id ≡ 1) × (helping None ≡ new)). let ranks : 3 ≡ 1 = ap (rank_of {T = T}) h.1 in absurd (omega arith))
       (at_two new (helping None) new id (subst (λ (t : State T (View T)). get_elem? t.views id ≡ some new) e at))
   opens_at id s (is_paired word home given begun turn e) at = ⊎_elim
@@ -157,11 +157,11 @@ module _ {T : Type 0} (may_run : T → Type 0) (changes : T → T → Type 0) wh
       → Allows Ruled slots id (leading None, (0, x) ∷ []) 0 (λ _. 1) (λ _. offered (leading None, (0, x) ∷ []) 1)
   offers_ready slots id x may s ruled len at wide = leads id None ((0, x) ∷ []) (λ _. 1) (λ _. offered (leading None, (0, x) ∷ []) 1)
       (λ word home begun turn. (
-          leading (Some x),
-          gives,
-          tt,
-          is_paired 1 (some x) (Some x) begun (is_offered x may refl refl refl (none_begun word home begun turn)) refl,
-          (λ y same. ap (λ (z : T). (leading (Some z), [])) (ap (λ (m : Me T (View T)). (get_or m.1 0 (0, x)).1) same)),
+        leading (Some x),
+        gives,
+        tt,
+        is_paired 1 (some x) (Some x) begun (is_offered x may refl refl refl (none_begun word home begun turn)) refl,
+        (λ y same. ap (λ (z : T). (leading (Some z), [])) (ap (λ (m : Me T (View T)). (get_or m.1 0 (0, x)).1) same)),
       )) s ruled at
 
   pub offers : (slots id : ℕ) (me : Me T (View T)) → IsReady may_run me → Allows Ruled slots id me 0 (λ _. 1) (λ _. offered me 1)
@@ -171,11 +171,11 @@ module _ {T : Type 0} (may_run : T → Type 0) (changes : T → T → Type 0) wh
   stops_free : (slots id : ℕ) (x : T) → Allows Ruled slots id (leading None, (0, x) ∷ []) 0 (λ _. 4) (λ _. stopped (leading None, (0, x) ∷ []) 4)
   stops_free slots id x s ruled len at wide = leads id None ((0, x) ∷ []) (λ _. 4) (λ _. stopped (leading None, (0, x) ∷ []) 4)
       (λ word home begun turn. (
-          leading None,
-          keeps,
-          tt,
-          is_paired 4 home None begun (is_stopped refl (none_home word home begun turn) refl (none_begun word home begun turn)) refl,
-          refl,
+        leading None,
+        keeps,
+        tt,
+        is_paired 4 home None begun (is_stopped refl (none_home word home begun turn) refl (none_begun word home begun turn)) refl,
+        refl,
       )) s ruled at
 
   pub stops : (slots id : ℕ) (me : Me T (View T)) → IsFree me → Allows Ruled slots id me 0 (λ _. 4) (λ _. stopped me 4)
@@ -219,9 +219,13 @@ module _ {T : Type 0} (may_run : T → Type 0) (changes : T → T → Type 0) wh
       go : (word : ℕ) (home : mathlib.Core.Option.Option T) (begun : Option T) → IsTurn may_run changes word home (Some x) begun → G word home begun
       go word home begun (is_free w h g b) = absurd (none-some x (sym g))
       go word home begun (is_offered y may w h g b) =
-          subst (λ (n : ℕ). G n home begun) (sym w) (subst (λ (o : mathlib.Core.Option.Option T). G 1 o begun) (sym h)
-          (leading None, takes 0 y, refl, is_paired 0 none None begun (is_free refl refl refl b) refl,
-              ((λ _. record { item = y; given_is = g; free = refl }), λ miss. absurd (miss refl))))
+          subst (λ (n : ℕ). G n home begun) (sym w) (subst (λ (o : mathlib.Core.Option.Option T). G 1 o begun) (sym h) (
+            leading None,
+            takes 0 y,
+            refl,
+            is_paired 0 none None begun (is_free refl refl refl b) refl,
+            ((λ _. record { item = y; given_is = g; free = refl }), λ miss. absurd (miss refl)),
+          ))
       go word home begun (is_begun y w h g b) = other word home begun (is_begun y w h g b) (λ e. omega arith)
       go word home begun (is_done y z c w h g b) = other word home begun (is_done y z c w h g b) (λ e. omega arith)
       go word home begun (is_stopped w h g b) = absurd (none-some x (sym g))
@@ -246,9 +250,13 @@ module _ {T : Type 0} (may_run : T → Type 0) (changes : T → T → Type 0) wh
       go word home begun (is_offered y may w h g b) = other word home begun (is_offered y may w h g b) (λ e. omega arith)
       go word home begun (is_begun y w h g b) = other word home begun (is_begun y w h g b) (λ e. omega arith)
       go word home begun (is_done y z c w h g b) =
-          subst (λ (n : ℕ). G n home begun) (sym w) (subst (λ (o : mathlib.Core.Option.Option T). G 3 o begun) (sym h)
-          (leading None, takes 0 z, refl, is_paired 0 none None begun (is_free refl refl refl b) refl,
-              ((λ _. record { before = y; after = z; given_is = g; changed = c; free = refl }), λ miss. absurd (miss refl))))
+          subst (λ (n : ℕ). G n home begun) (sym w) (subst (λ (o : mathlib.Core.Option.Option T). G 3 o begun) (sym h) (
+            leading None,
+            takes 0 z,
+            refl,
+            is_paired 0 none None begun (is_free refl refl refl b) refl,
+            ((λ _. record { before = y; after = z; given_is = g; changed = c; free = refl }), λ miss. absurd (miss refl)),
+          ))
       go word home begun (is_stopped w h g b) = absurd (none-some x (sym g))
 
   pub collects : (slots id : ℕ) (me : Me T (View T)) → IsGiven may_run me
@@ -272,9 +280,13 @@ module _ {T : Type 0} (may_run : T → Type 0) (changes : T → T → Type 0) wh
       go : (word : ℕ) (home : mathlib.Core.Option.Option T) (given : Option T) → IsTurn may_run changes word home given None → G word home given
       go word home given (is_free w h g b) = other word home given (is_free w h g b) (λ e. omega arith)
       go word home given (is_offered y may w h g b) =
-          subst (λ (n : ℕ). G n home given) (sym w) (subst (λ (o : mathlib.Core.Option.Option T). G 1 o given) (sym h)
-          (helping (Some y), takes 0 y, refl, is_paired 2 none given (Some y) (is_begun y refl refl g refl) refl,
-              ((λ _. record { item = y; may = may; begun = refl }), λ miss. absurd (miss refl))))
+          subst (λ (n : ℕ). G n home given) (sym w) (subst (λ (o : mathlib.Core.Option.Option T). G 1 o given) (sym h) (
+            helping (Some y),
+            takes 0 y,
+            refl,
+            is_paired 2 none given (Some y) (is_begun y refl refl g refl) refl,
+            ((λ _. record { item = y; may = may; begun = refl }), λ miss. absurd (miss refl)),
+          ))
       go word home given (is_begun y w h g b) = absurd (none-some y b)
       go word home given (is_done y z c w h g b) = other word home given (is_done y z c w h g b) (λ e. omega arith)
       go word home given (is_stopped w h g b) = other word home given (is_stopped w h g b) (λ e. omega arith)

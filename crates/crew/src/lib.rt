@@ -13,7 +13,7 @@ mod post;
 mod rounds;
 mod steps;
 mod task;
-mod turns;
-mod view;
 #[cfg(test)]
 mod tests;
+mod turns;
+mod view;
