@@ -1,0 +1,4 @@
+pub mod Keeping
+pub mod Slots
+pub mod Changing
+pub mod Handing

@@ -1,0 +1,6 @@
+use Rattle.std.proofs.Common.{rules}
+use Rattle.crew.proofs.Keeping.{begins}
+use Rattle.crew.proofs.steps.begin.Goals as goal
+
+pub compare_exchange-requires : goal.compare_exchange-requires
+compare_exchange-requires g c = (c.requires.table, search rules, begins g.T.Task.may_run g.T.Task.changes _ _ _ c.requires.idle)
