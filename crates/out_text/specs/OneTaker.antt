@@ -14,7 +14,7 @@ abbrev pub IsItemIn : Option MapView → ℕ → Type 0
 IsItemIn map id = IsSome (delay_in map id)
 
 -- no two entries of one frame's journal took one item; and where an entry took an item, no other entry took it in that
--- frame and those after it, as many as its delay says
+-- frame and those after it, as many in all as its delay says
 pub record HasOneTakerEach (map : Option MapView) (journals : List (List Entry)) : Type 0 where
   pub once : (frame place other id : ℕ) → IsItemIn map id → HasTakenIn journals frame place id
       → HasTakenIn journals frame other id → other ≡ place
