@@ -101,11 +101,16 @@ def perform(work):
     sys.exit(status)
 
 
+def is_number(word):
+    """Whether a word is a number, of no more digits than anything here is counted by."""
+    return word.isascii() and word.isdecimal() and len(word) <= 18
+
+
 def at_most_numbers(most):
     """Words are at most so many numbers."""
 
     def wrong(words):
-        if len(words) <= most and all(word.isdecimal() and word.isascii() for word in words):
+        if len(words) <= most and all(map(is_number, words)):
             return None
         return f"at most {most} numbers are wanted"
 
