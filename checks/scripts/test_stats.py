@@ -60,11 +60,25 @@ class Stats(Calls):
         self.assertEqual(self.counted(example("duel.demo"), fed)["frames"], plain["frames"])
         cut = self.counted(example("duel.demo"), self.path("cut", content("duel.out")[:9000]), status=1)
         self.assertFalse(cut["whole"])
+        _, error, _ = self.call("stats", self.path("cut.demo", content("duel.demo")[:500]), status=1)
+        self.assertIn(b"recording refused: line 25, fault 10 (status 1)", error)
         for words in ([], ["-"], ["-", "-"], [self.path("none")], [self.folder], [example("duel.demo"), "--sing"]):
             self.call("stats", *words, status=2)
         self.call("stats", example("duel.out"), status=1)
         error, status = self.into_closed_pipe("stats", example("duel.demo"), example("duel.out"))
         self.assertEqual((error, status), (b"stats: the output was closed before all of it was written\n", 1))
+
+    def test_outputs_of_another_match(self):
+        """Whose frames are others than the recording's, or have other numbers than their own."""
+        whole = content("duel.out")
+        for changed in (
+            b"end 0\n", whole.replace(b"end 48", b"end 47"), whole.replace(b"frame 7\n", b"frame 8\n"),
+            whole.replace(b"frame 0\n", b"frame -1\n"), content("two-players.out"),
+        ):
+            for script in ("stats", "replay", "picture"):
+                out, _, _ = self.call(script, example("duel.demo"), self.path("other", changed), status=1)
+                self.assertEqual(out, b"")
+        self.call("stats", example("two-players.demo"), example("duel.out"), status=1)
 
 
 if __name__ == "__main__":
