@@ -5,6 +5,7 @@ another one, by a path from the current folder or by a whole one.
 """
 import errno
 import os
+import signal
 import subprocess
 import sys
 
@@ -78,12 +79,19 @@ def sentence_of(error):
     return None
 
 
+def stop(*_):
+    raise KeyboardInterrupt
+
+
 def perform(work):
     """Does the work and ends the script with the status that it gives, None for 0.
 
     What a user can cause, as a closed pipe, a full disk or a file of another format, ends it with a sentence and
-    status 1.
+    status 1. A signal that asks it to end does so as Control-C does, so that no folder and no process is left.
     """
+    for number in (signal.SIGTERM, signal.SIGHUP):
+        if signal.getsignal(number) is signal.SIG_DFL:
+            signal.signal(number, stop)
     try:
         if sys.stdout is None:
             raise OSError(errno.EBADF, "standard output is closed")

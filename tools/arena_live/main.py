@@ -75,6 +75,8 @@ def read_words() -> argparse.Namespace:
     words = parser.parse_args()
     if (words.map is None) == (words.resume is None):
         parser.error("one of MAP and --resume FOLDER is wanted")
+    if words.resume is not None and words.save is not None:
+        parser.error("--save is for a new match: a resumed one goes on in its folder")
     if not words.bind:
         parser.error("--bind wants an address")
     return words
@@ -235,8 +237,13 @@ def why_not() -> Optional[str]:
 
 def main() -> int:
     if sys.stdout is not None:
-        sys.stdout.reconfigure(errors="backslashreplace")
-    words = read_words()
+        sys.stdout.reconfigure(errors="backslashreplace", line_buffering=True)
+    try:
+        words = read_words()
+    except OSError as fault:  # where the help can't be written
+        os.dup2(os.open(os.devnull, os.O_WRONLY), sys.stdout.fileno())
+        print(f"live: {program.sentence_of(fault)[0]}", file=sys.stderr)
+        return MISUSED
     try:
         if (why := why_not()) is not None:
             raise Misuse(why)
