@@ -3,7 +3,6 @@ import os
 import signal
 import subprocess
 import sys
-import time
 import unittest
 
 from calls import SECONDS, Calls
@@ -15,6 +14,7 @@ import tempfile, time
 from common import perform
 def work():
     with tempfile.TemporaryDirectory():
+        print("held", flush=True)
         time.sleep(600)
 perform(work)
 """
@@ -61,10 +61,9 @@ class Checks(Calls):
     def test_a_signal_leaves_nothing(self):
         for number in (signal.SIGTERM, signal.SIGHUP):
             environment = {**os.environ, "TMPDIR": self.folder, "PYTHONPATH": CHECKS}
-            held = subprocess.Popen([sys.executable, "-c", HELD], stderr=subprocess.PIPE, env=environment)
-            until = time.monotonic() + SECONDS
-            while not os.listdir(self.folder) and time.monotonic() < until:
-                time.sleep(0.05)
+            pipes = {"stdout": subprocess.PIPE, "stderr": subprocess.PIPE}
+            held = subprocess.Popen([sys.executable, "-c", HELD], env=environment, **pipes)
+            self.assertEqual(held.stdout.readline(), b"held\n")
             held.send_signal(number)
             error = held.communicate(timeout=SECONDS)[1]
             self.assertEqual((error, held.returncode, os.listdir(self.folder)), (b"-c: stopped\n", 130, []))
