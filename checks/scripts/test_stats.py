@@ -51,6 +51,12 @@ class Stats(Calls):
         for line in out.decode().splitlines():
             self.assertRegex(line, r"^(# (HELP|TYPE) mustardawl_\w+ .+|mustardawl_\w+(\{\w+=\"\w+\"(,\w+=\"\w+\")*\})? [0-9]+)$")
 
+    def test_a_name_is_no_label(self):
+        """A refusal's name in an output may be anything."""
+        changed = self.path("other", content("packet-faults.out").replace(b" Empty\n", b' a"b\n'))
+        out, _, _ = self.call("stats", example("packet-faults.demo"), changed, "--prometheus", status=0)
+        self.assertIn(b'\nmustardawl_refusals_total{name="a\\"b"} 1\n', out)
+
     def test_files(self):
         packed = self.path("duel.out.gz", gzip.compress(content("duel.out")))
         plain = self.counted(example("duel.demo"), example("duel.out"))
