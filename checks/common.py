@@ -12,7 +12,8 @@ TOOLS = os.path.join(TOP, "tools")
 sys.path.insert(0, TOOLS)
 from arena import FormatError  # noqa: E402,F401
 from program import (  # noqa: E402,F401
-    PROGRAM, SECONDS, at_most_numbers, begin, files, folders, lacking, misused, no_words, perform, run, shown, unreadable,
+    PROGRAM, SECONDS, at_most_numbers, begin, files, folders, is_number, lacking, misused, no_words, perform, run, shown,
+    unreadable,
 )
 
 

@@ -189,7 +189,8 @@ class _Lines:
         return FormatError(f"line {self.number}: {why}")
 
 
-NUMBER = re.compile(rb"0|-?[1-9][0-9]*")
+# No number of a file has more digits than these.
+NUMBER = re.compile(rb"0|-?[1-9][0-9]{0,19}")
 
 
 def _integer(word: bytes) -> int:
@@ -631,17 +632,19 @@ class Output:
         return self._lines.is_cut
 
     def __iter__(self) -> Iterator[PlayedFrame]:
-        frame = None
+        frame, count = None, 0
         while (line := self._lines.next()) is not None and not self.is_cut:
             try:
                 if line.startswith((b"frame ", b"end ")):
                     if frame is not None:
                         yield frame
                     (number,) = _integers(line.split(b" ")[1:], 1)
+                    if number != count:
+                        raise ValueError(f"it has the number {number}, after {count} frames")
                     if line.startswith(b"end "):
                         self.frames = number
                         return
-                    frame = PlayedFrame(number, self.line)
+                    frame, count = PlayedFrame(number, self.line), count + 1
                 elif frame is None:
                     front = printable(line_front(line))
                     raise ValueError(f"{front!r} is no line `frame K` or `end K`, so it is no output")

@@ -16,6 +16,7 @@ import os
 import re
 import shutil
 import signal
+import stat
 import subprocess
 import sys
 import threading
@@ -44,6 +45,8 @@ def program(words, **pipes):
 
 def opened(path):
     """A file's bytes, unpacked where they are packed by gzip."""
+    if stat.S_ISFIFO(os.stat(path).st_mode):
+        raise OSError(0, "is a pipe, which may have no end", path)
     file = open(path, "rb")
     return gzip.open(file, "rb") if file.peek(2)[:2] == b"\x1f\x8b" else file
 

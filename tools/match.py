@@ -101,11 +101,14 @@ class Match:
         self.lifts = [Lift(thing) for thing in self.map.things if thing.kind == "lift"]
 
     def frames(self) -> Iterator[Frame]:
-        """All frames that the output has; those of a log have their own packets."""
+        """All frames that the output has; those of a log have their own packets, and its recording may be a map alone."""
         ports: Dict[int, int] = {}
         recorded = iter(self.recording)
+        sent = None
         for played in self.output:
-            sent = next(recorded, None)
+            before, sent = sent, next(recorded, None)
+            if before is not None and sent is None:
+                raise arena.FormatError(f"the output has a frame {played.number}, and the recording ends before it")
             ports = arena.ports_by_slot(played, ports)
             try:
                 heads = {slot: arena.read_head(data) for slot, data in played.snapshots.items()}
@@ -119,6 +122,8 @@ class Match:
                 self.run(frame, move)
             self.close(frame)
             yield frame
+        if self.output.frames is not None and next(recorded, None) is not None:
+            raise arena.FormatError(f"the output ends after {self.output.frames} frames, and the recording has more")
 
     def tick(self, frame: Frame) -> None:
         self.away = {thing: back for thing, back in self.away.items() if back > frame.number}

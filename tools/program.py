@@ -5,6 +5,7 @@ another one, by a path from the current folder or by a whole one.
 """
 import errno
 import os
+import signal
 import subprocess
 import sys
 
@@ -78,12 +79,19 @@ def sentence_of(error):
     return None
 
 
+def stop(*_):
+    raise KeyboardInterrupt
+
+
 def perform(work):
     """Does the work and ends the script with the status that it gives, None for 0.
 
     What a user can cause, as a closed pipe, a full disk or a file of another format, ends it with a sentence and
-    status 1.
+    status 1. A signal that asks it to end does so as Control-C does, so that no folder and no process is left.
     """
+    for number in (signal.SIGTERM, signal.SIGHUP):
+        if signal.getsignal(number) is signal.SIG_DFL:
+            signal.signal(number, stop)
     try:
         if sys.stdout is None:
             raise OSError(errno.EBADF, "standard output is closed")
@@ -101,11 +109,16 @@ def perform(work):
     sys.exit(status)
 
 
+def is_number(word):
+    """Whether a word is a number, of no more digits than anything here is counted by."""
+    return word.isascii() and word.isdecimal() and len(word) <= 18
+
+
 def at_most_numbers(most):
     """Words are at most so many numbers."""
 
     def wrong(words):
-        if len(words) <= most and all(word.isdecimal() and word.isascii() for word in words):
+        if len(words) <= most and all(map(is_number, words)):
             return None
         return f"at most {most} numbers are wanted"
 

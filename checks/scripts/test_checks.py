@@ -1,11 +1,23 @@
 """What the checks say where a user gives them nothing to do, or what they need isn't there."""
 import os
+import signal
 import subprocess
 import sys
 import unittest
 
 from calls import SECONDS, Calls
 from common import CHECKS, PROGRAM
+
+# A script that has a folder of its own while it waits.
+HELD = """
+import tempfile, time
+from common import perform
+def work():
+    with tempfile.TemporaryDirectory():
+        print("held", flush=True)
+        time.sleep(600)
+perform(work)
+"""
 
 
 class Checks(Calls):
@@ -45,6 +57,20 @@ class Checks(Calls):
         why = b"real_maps: apt-get download openarena-081-maps ended with status 100: E: Unable to locate package\n"
         self.assertTrue(error.endswith(why), error)
         self.assertEqual(status, 1)
+
+    def test_a_signal_leaves_nothing(self):
+        for number in (signal.SIGTERM, signal.SIGHUP):
+            environment = {**os.environ, "TMPDIR": self.folder, "PYTHONPATH": CHECKS}
+            pipes = {"stdout": subprocess.PIPE, "stderr": subprocess.PIPE}
+            held = subprocess.Popen([sys.executable, "-c", HELD], env=environment, **pipes)
+            self.assertEqual(held.stdout.readline(), b"held\n")
+            held.send_signal(number)
+            error = held.communicate(timeout=SECONDS)[1]
+            self.assertEqual((error, held.returncode, os.listdir(self.folder)), (b"-c: stopped\n", 130, []))
+
+    def test_numbers_without_end(self):
+        for name, words in (("soak", ["\u00b2"]), ("no_memory", ["9" * 5000]), ("transcripts", ["9" * 5000])):
+            self.assertEqual(self.check(name, *words)[1], 2)
 
     def test_no_program(self):
         for name, words in (("play", []), ("play", ["--built"]), ("workers", []), ("transcripts", []), ("soak", ["1", "1"])):

@@ -1,6 +1,7 @@
 """`from_quake`: what a user does wrong. `checks/from_quake` tries what it makes of maps."""
 import os
 import random
+import re
 import resource
 import struct
 import subprocess
@@ -47,6 +48,13 @@ class FromQuake(Calls):
                 )
             self.assertEqual(done.returncode, 1)
             self.assertTrue(done.stderr.endswith(b"No space left on device\n"), done.stderr)
+
+    def test_numbers_that_no_map_has(self):
+        for number in ("1e200", "-1e308", "1e999"):
+            changed = self.room().replace("room", "changed")
+            with open(self.room()) as room, open(changed, "w") as file:
+                file.write(re.sub(r"\( -?[0-9.]+ ", f"( {number} ", room.read(), 1))
+            self.assertIn(b"has a number that no map has\n", self.call("from_quake", changed, status=1)[1])
 
     def test_names(self):
         with zipfile.ZipFile(self.path("a :b.pk3"), "w") as package:

@@ -66,10 +66,12 @@ class Many(Calls):
     def test_what_is_no_recording(self):
         os.symlink("/none", os.path.join(self.recordings, "dangling.demo"))
         os.mkdir(os.path.join(self.recordings, "folder.demo"))
+        os.mkfifo(os.path.join(self.recordings, "pipe.demo"))
         self.put("cut.demo.gz", gzip.compress(content("duel.demo"))[:-9])
         self.put("wide.demo", content("one-join.demo").decode().encode("utf-16"))
         _, found, _ = self.many(status=1)
         wanted = {"dangling.demo": "failed", "folder.demo": "failed", "cut.demo.gz": "failed", "wide.demo": "refused"}
+        wanted["pipe.demo"] = "failed"
         self.assertEqual(self.ends(found), wanted)
 
     def test_results_that_never_come(self):

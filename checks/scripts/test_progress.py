@@ -29,7 +29,7 @@ class Progress(Calls):
         self.assertIn(b"the output has 48 frames, and 47 were awaited", error)
 
     def test_wrong_words(self):
-        for words in ([], ["x"], ["-1"], ["1", "2"], ["\u00b2"]):
+        for words in ([], ["x"], ["-1"], ["1", "2"], ["\u00b2"], ["9" * 5000]):
             self.call("progress", *words, status=2)
 
     def test_no_control_byte_reaches_a_terminal(self):

@@ -60,6 +60,8 @@ class Pages(Calls):
         page, _, _ = self.call("replay", path, status=0)
         self.assertNotIn(b"<script>alert", page)
         self.assertEqual(head_of(page)["title"], os.path.basename(path))
+        page, _, _ = self.call("replay", self.path("a \x1b.demo", content("one-join.demo")), status=0)
+        self.assertNotIn(b"\x1b", page)
 
     def test_what_cannot_be_shown(self):
         self.call("replay", status=2)

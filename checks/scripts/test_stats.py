@@ -51,6 +51,12 @@ class Stats(Calls):
         for line in out.decode().splitlines():
             self.assertRegex(line, r"^(# (HELP|TYPE) mustardawl_\w+ .+|mustardawl_\w+(\{\w+=\"\w+\"(,\w+=\"\w+\")*\})? [0-9]+)$")
 
+    def test_a_name_is_no_label(self):
+        """A refusal's name in an output may be anything."""
+        changed = self.path("other", content("packet-faults.out").replace(b" Empty\n", b' a"b\n'))
+        out, _, _ = self.call("stats", example("packet-faults.demo"), changed, "--prometheus", status=0)
+        self.assertIn(b'\nmustardawl_refusals_total{name="a\\"b"} 1\n', out)
+
     def test_files(self):
         packed = self.path("duel.out.gz", gzip.compress(content("duel.out")))
         plain = self.counted(example("duel.demo"), example("duel.out"))
@@ -60,11 +66,25 @@ class Stats(Calls):
         self.assertEqual(self.counted(example("duel.demo"), fed)["frames"], plain["frames"])
         cut = self.counted(example("duel.demo"), self.path("cut", content("duel.out")[:9000]), status=1)
         self.assertFalse(cut["whole"])
+        _, error, _ = self.call("stats", self.path("cut.demo", content("duel.demo")[:500]), status=1)
+        self.assertIn(b"recording refused: line 25, fault 10 (status 1)", error)
         for words in ([], ["-"], ["-", "-"], [self.path("none")], [self.folder], [example("duel.demo"), "--sing"]):
             self.call("stats", *words, status=2)
         self.call("stats", example("duel.out"), status=1)
         error, status = self.into_closed_pipe("stats", example("duel.demo"), example("duel.out"))
         self.assertEqual((error, status), (b"stats: the output was closed before all of it was written\n", 1))
+
+    def test_outputs_of_another_match(self):
+        """Whose frames are others than the recording's, or have other numbers than their own."""
+        whole = content("duel.out")
+        for changed in (
+            b"end 0\n", whole.replace(b"end 48", b"end 47"), whole.replace(b"frame 7\n", b"frame 8\n"),
+            whole.replace(b"frame 0\n", b"frame -1\n"), content("two-players.out"),
+        ):
+            for script in ("stats", "replay", "picture"):
+                out, _, _ = self.call(script, example("duel.demo"), self.path("other", changed), status=1)
+                self.assertEqual(out, b"")
+        self.call("stats", example("two-players.demo"), example("duel.out"), status=1)
 
 
 if __name__ == "__main__":

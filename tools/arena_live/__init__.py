@@ -6,7 +6,7 @@
     roll       who has joined, and where a frame's text ends
     saved      the folder of a match: its recording and its output, and how a match is resumed from them
     sessions   clients: their tokens, ports and budgets, and the packets of the open frame
-    udp, web   the two transports; page/ is what a browser gets
+    udp, web   the two transports; page/ is what a browser gets, and `guard` is before each connection of it
     bots       players that the front brings itself
     events     joins, leaves, items, hits and scores, from the lines of a frame
     verdict    whether a saved match is right

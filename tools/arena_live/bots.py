@@ -42,7 +42,10 @@ class Ways:
         lines = self._fixed + [b"spawn %d %d %d" % tuple(self._spawns[spawn]) for spawn in order] + [b"end\n"]
         pipes = dict.fromkeys(("stdin", "stdout", "stderr"), asyncio.subprocess.PIPE)
         words = ("bots", str(order.index(target)))
-        process = await asyncio.create_subprocess_exec(self._program, *words, start_new_session=True, **pipes)
+        try:
+            process = await asyncio.create_subprocess_exec(self._program, *words, start_new_session=True, **pipes)
+        except OSError:
+            return None  # The program is being built anew, say.
         text, _ = await process.communicate(b"\n".join(lines))
         if process.returncode != 0:
             return None

@@ -24,7 +24,7 @@ from arena_live.metrics import Metrics
 from arena_live.pipe import ProgramEnded
 from arena_live.resume import resume
 from arena_live.saved import MOST_FRAMES, Saved, SaveFault, Settings, read_map
-from arena_live.sessions import GOODBYE, Sessions
+from arena_live.sessions import Sessions
 from arena_live.udp import Udp
 from arena_live.verdict import NOT_JUDGED, WRONG, judge
 
@@ -33,6 +33,8 @@ try:
 except ImportError:
     Web = None
 
+# What the program may take to answer a map.
+SECONDS = 60
 ALL_RIGHT, ONE_WRONG, MISUSED, BROKEN_OFF, UNJUDGED = range(5)
 
 
@@ -73,14 +75,18 @@ def read_words() -> argparse.Namespace:
     words = parser.parse_args()
     if (words.map is None) == (words.resume is None):
         parser.error("one of MAP and --resume FOLDER is wanted")
+    if words.resume is not None and words.save is not None:
+        parser.error("--save is for a new match: a resumed one goes on in its folder")
+    if not words.bind:
+        parser.error("--bind wants an address")
     return words
 
 
 def say(text: str) -> None:
-    """Prints a line. A match goes on without a reader of these."""
+    """Prints a line. A match goes on where these can't be written."""
     try:
-        print(f"live: {text}", flush=True)
-    except BrokenPipeError:
+        print(f"live: {program.shown(text)}", flush=True)
+    except OSError:
         os.dup2(os.open(os.devnull, os.O_WRONLY), sys.stdout.fileno())
 
 
@@ -94,6 +100,15 @@ class Live:
         self._judging: List[asyncio.Task] = []
 
     async def run(self) -> int:
+        try:
+            await self._serve_all()
+        except BrokenOff as why:
+            say(f"it broke off: {why}")
+            await self._report()
+            return BROKEN_OFF
+        return await self._report()
+
+    async def _serve_all(self) -> None:
         words = self._words
         for number in (signal.SIGINT, signal.SIGTERM):
             asyncio.get_running_loop().add_signal_handler(number, self._stop.set)
@@ -111,7 +126,6 @@ class Live:
             refuse_bad_map(words.map, ground)
             sessions = Sessions(self._metrics, words.hz)
             await self._serve(ground, sessions, None)
-        return await self._report()
 
     async def _serve(self, ground: Arena, sessions: Sessions, go_on: Optional[Callable[[], Match]]) -> None:
         """Listens, plays, and says goodbye to all."""
@@ -126,7 +140,7 @@ class Live:
             await self._play(ground, sessions, match)
         finally:
             for session in sessions:
-                session.send(GOODBYE + b"over")
+                sessions.say_goodbye(session, b"over")
             await asyncio.sleep(0.05)  # so that it is sent
             if udp is not None:
                 udp.close()
@@ -161,7 +175,7 @@ class Live:
         words = self._words
         try:
             while True:
-                await match.run(self._stop, min(words.frames or MOST_FRAMES, words.match))
+                await self._play_one(match, min(words.frames or MOST_FRAMES, words.match))
                 match.saved.close()
                 self._judging.append(asyncio.create_task(judge(ground.program, match.saved)))
                 say(f"{match.frame} frames are saved in {match.saved.recording_path} and {match.saved.output_path}")
@@ -169,9 +183,15 @@ class Live:
                     return
                 match = await self._new_match(ground, sessions)
         except (ProgramEnded, SaveFault) as why:
-            raise BrokenOff(f"{why}; `--resume {match.saved.folder}` goes on with what was saved") from None
+            raise BrokenOff(f"{why}, so no other match begins") from None
         finally:
             await match.pipe.kill()
+
+    async def _play_one(self, match: Match, most: int) -> None:
+        try:
+            await match.run(self._stop, most)
+        except (ProgramEnded, SaveFault) as why:
+            raise BrokenOff(f"{why}; `--resume {match.saved.folder}` goes on with what was saved") from None
 
     async def _report(self) -> int:
         parts = {"median": 0.5, "99th": 0.99, "worst": 1}
@@ -179,9 +199,15 @@ class Live:
         counts = (self._metrics.counts[f"arena_{name}_total"] for name in ("frames", "late_frames", "joins", "moves"))
         said = "{} frames, {} late, {} joins, {} moves".format(*counts)
         say(f"{said}; milliseconds from when a frame was due until it was sent: {times}")
+        judged = asyncio.gather(*self._judging)
         # From here on Control-C ends the judging.
-        asyncio.get_running_loop().remove_signal_handler(signal.SIGINT)
-        verdicts = await asyncio.gather(*self._judging)
+        for number in (signal.SIGINT, signal.SIGTERM):
+            asyncio.get_running_loop().add_signal_handler(number, judged.cancel)
+        try:
+            verdicts = await judged
+        except asyncio.CancelledError:
+            say("not judged: it was stopped")
+            return UNJUDGED
         for verdict in verdicts:
             say(str(verdict))
         kinds = {verdict.kind for verdict in verdicts}
@@ -191,9 +217,14 @@ class Live:
 def refuse_bad_map(path: str, ground: Arena) -> None:
     """The program reads the map and a frame without packets, before anybody waits for it."""
     text = b"\n".join([*ground.lines, b"frame", b"end", b""])
-    done = subprocess.run([ground.program, "play", "1"], input=text, capture_output=True, start_new_session=True)
+    try:
+        done = subprocess.run(
+            [ground.program, "play", "1"], input=text, capture_output=True, start_new_session=True, timeout=SECONDS
+        )
+    except (OSError, subprocess.TimeoutExpired) as why:
+        raise Misuse(program.sentence_of(why)[0]) from None
     if done.returncode != 0:
-        said = done.stderr.decode("ascii", "replace").strip() or f"status {done.returncode}"
+        said = arena.printable(done.stderr.strip()) or f"status {done.returncode}"
         raise Misuse(f"{path} is no map that the program takes: {said}; `tools/why` says it in words")
 
 
@@ -205,7 +236,14 @@ def why_not() -> Optional[str]:
 
 
 def main() -> int:
-    words = read_words()
+    if sys.stdout is not None:
+        sys.stdout.reconfigure(errors="backslashreplace", line_buffering=True)
+    try:
+        words = read_words()
+    except OSError as fault:  # where the help can't be written
+        os.dup2(os.open(os.devnull, os.O_WRONLY), sys.stdout.fileno())
+        print(f"live: {program.sentence_of(fault)[0]}", file=sys.stderr)
+        return MISUSED
     try:
         if (why := why_not()) is not None:
             raise Misuse(why)
@@ -213,9 +251,6 @@ def main() -> int:
     except (Misuse, SaveFault, ProgramEnded, arena.FormatError) as fault:
         say(str(fault))
         return MISUSED
-    except BrokenOff as fault:
-        say(f"the match broke off: {fault}")
-        return BROKEN_OFF
     except KeyboardInterrupt:
         say("not judged: it was stopped")
         return UNJUDGED

@@ -42,10 +42,10 @@ class Match:
         return Match(ground, sessions, metrics, Start(saved, pipe, Roll(), 0))
 
     async def run(self, stop: asyncio.Event, most: int) -> None:
-        """Plays frames by the clock until `stop` is set or so many frames were played, and then the last."""
+        """Plays frames by the clock until `stop` is set or one of so many is left, and then the last at its time."""
         period = 1 / self.saved.settings.hz
         due = monotonic() + period
-        while self.frame + 1 < most and not await _is_set_before(stop, due):
+        while not await _is_set_before(stop, due) and self.frame + 1 < most:
             await self._play_frame(b"frame")
             done = monotonic()
             self._metrics.frame_took(done - due)
@@ -90,6 +90,8 @@ class Match:
         told = self._told(frame, events)
         least = min(frame.snapshots, default=None)
         for session in self._sessions:
+            if not session.is_known:
+                continue
             slot = session.watched if session.watched in frame.snapshots else least
             if slot is not None:
                 self._sessions.tell(session, SNAPSHOT + frame.snapshots[slot])

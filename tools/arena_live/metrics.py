@@ -1,5 +1,4 @@
 """Counts of a run, as /metrics shows them in Prometheus' text form, and the frame times for the last report."""
-from array import array
 from collections import Counter
 from typing import Dict, Iterator, List
 
@@ -11,7 +10,9 @@ class Metrics:
     """What a run counts. Names of counters are in `counts`, refusals by their names in `refusals`."""
 
     def __init__(self):
-        self.frame_seconds = array("d")
+        # How many frames took so many tenths of a millisecond: a run has no end, and what it keeps has one.
+        self._tenths: Counter = Counter()
+        self._seconds = 0.0
         self.counts: Counter = Counter()
         self.refusals: Counter = Counter()
         self.gauges: Dict[str, int] = {}
@@ -19,13 +20,18 @@ class Metrics:
 
     def frame_took(self, seconds: float) -> None:
         """A frame was answered so long after it was due."""
-        self.frame_seconds.append(seconds)
+        self._tenths[round(seconds * 10_000)] += 1
+        self._seconds += seconds
         self._buckets[sum(seconds > bound for bound in BOUNDS)] += 1
 
     def quantile(self, part: float) -> float:
         """The frame time below which this part of all frames are, in seconds."""
-        times = sorted(self.frame_seconds)
-        return times[min(len(times) - 1, int(part * len(times)))] if times else 0.0
+        place = int(part * self._tenths.total())
+        for tenths, count in sorted(self._tenths.items()):
+            place -= count
+            if place < 0:
+                return tenths / 10_000
+        return max(self._tenths, default=0) / 10_000
 
     def text(self) -> str:
         return "\n".join(self._lines()) + "\n"
@@ -60,4 +66,4 @@ class Metrics:
         for bound, count in zip((*BOUNDS, "+Inf"), self._buckets):
             below += count
             lines.append(f'{name}_bucket{{le="{bound}"}} {below}')
-        return lines + [f"{name}_sum {sum(self.frame_seconds):.6f}", f"{name}_count {below}"]
+        return lines + [f"{name}_sum {self._seconds:.6f}", f"{name}_count {below}"]

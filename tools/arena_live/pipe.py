@@ -8,6 +8,7 @@ import asyncio
 from contextlib import suppress
 from typing import List
 
+import arena
 from arena_live.roll import Roll
 
 CHUNK = 1 << 20
@@ -30,7 +31,10 @@ class Pipe:
     async def start(cls, program: str, workers: int) -> "Pipe":
         """Starts the program in a session of its own, so that Control-C in a terminal reaches the front alone."""
         pipes = dict.fromkeys(("stdin", "stdout", "stderr"), asyncio.subprocess.PIPE)
-        process = await asyncio.create_subprocess_exec(program, "play", str(workers), start_new_session=True, **pipes)
+        try:
+            process = await asyncio.create_subprocess_exec(program, "play", str(workers), start_new_session=True, **pipes)
+        except OSError as why:
+            raise ProgramEnded(f"the program can't be started: {why.strerror}") from None
         return cls(process)
 
     @property
@@ -75,7 +79,7 @@ class Pipe:
 
     async def _ended(self) -> ProgramEnded:
         status = await self._process.wait()
-        said = (await self._process.stderr.read()).decode("ascii", "replace").strip()
+        said = arena.printable((await self._process.stderr.read()).strip())
         return ProgramEnded(f"the program ended with status {status}" + (f": {said}" if said else ""))
 
     async def kill(self) -> None:

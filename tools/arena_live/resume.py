@@ -15,6 +15,7 @@ import arena
 from arena_live.pipe import CHUNK, Pipe
 from arena_live.roll import Roll, leaves_of
 from arena_live.saved import Saved, SaveFault, Settings, frame_text
+from expected import in_turns
 
 FRAME = b"frame\n"
 Commands = Dict[Tuple[int, int], arena.Command]  # by port and number
@@ -37,13 +38,19 @@ async def resume(folder: str, program: str) -> Start:
         if saved.settings.workers > 1:
             _rewrite_in_order(saved)
         pipe = await Pipe.start(program, 1)
+        try:
+            saved.open("ab")
+            roll, frame = await _replay(saved, pipe)
+        except BaseException:
+            await pipe.kill()
+            raise
     except OSError as why:
+        saved.close()
         raise SaveFault(f"{folder} can't be resumed: {why.strerror}") from None
-    try:
-        saved.open("ab")
-        roll, frame = await _replay(saved, pipe)
+    except (ValueError, LookupError):
+        saved.close()
+        raise SaveFault(f"{folder} can't be resumed: its files aren't as `tools/live` writes them") from None
     except BaseException:
-        await pipe.kill()
         saved.close()
         raise
     return Start(saved, pipe, roll, frame)
@@ -166,7 +173,8 @@ def _in_order(text: List[bytes], arrivals: List[Tuple[int, bytes]], roll: Roll) 
     ports = {slot: port for port, slot in roll.slots.items()}
     commands = _accepted_commands(arrivals, frame.refusals)
     joins = [(port, arena.join()) for port in frame.joins]
-    moves = [(ports[move.slot], arena.moves([commands[ports[move.slot], move.number]])) for move in frame.moves]
+    # Together where they follow each other, since a frame has no more than 512 packets.
+    moves = in_turns([(ports[move.slot], commands[ports[move.slot], move.number]) for move in frame.moves])
     return joins + moves + [(port, arena.leave()) for port in roll.leaving()]
 
 

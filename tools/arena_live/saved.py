@@ -6,12 +6,14 @@ anything of it. Both are handed to the system at once, so they outlive the front
 import fcntl
 import json
 import os
+import re
 from dataclasses import asdict, dataclass
 from typing import BinaryIO, List, Sequence, Tuple
 
 import arena
 
 MOST_FRAMES = 100_000
+NAME = re.compile(r"match(-[0-9]{1,7})?")
 
 
 class SaveFault(Exception):
@@ -26,12 +28,20 @@ class Settings:
     hz: int
     name: str = "match"
 
+    def __post_init__(self) -> None:
+        """Raises ValueError where they aren't as this front writes them: a folder may come from anywhere."""
+        numbers = ((self.workers, 16), (self.hz, 100))
+        if not all(type(number) is int and 1 <= number <= most for number, most in numbers):
+            raise ValueError("a number isn't one of a match")
+        if not (isinstance(self.name, str) and NAME.fullmatch(self.name)):
+            raise ValueError("the name isn't one of a match")
+
 
 def read_map(path: str) -> Tuple[arena.Map, List[bytes]]:
     """The map of a file and its lines: those of a recording before its first frame, or all of them."""
     lines, map_ = [], arena.Map()
     with arena.opened(path) as file:
-        for number, line in enumerate(file, 1):
+        for number, line in enumerate(arena.parts(file, arena.RECORDING_LINE + 2), 1):
             line = line.removesuffix(b"\n").removesuffix(b"\r")
             if line in (b"frame", b"end"):
                 break
@@ -75,8 +85,10 @@ class Saved:
             saved = cls(folder, settings)
             if os.path.exists(os.path.join(folder, "match.json")):
                 raise SaveFault(f"{folder} has a match already; `--resume {folder}` goes on with it")
-            saved.write_settings()
+            if any(map(os.path.lexists, (saved.recording_path, saved.output_path))):
+                raise SaveFault(f"{folder} has a file match.demo or match.out already")
             saved.open("xb")
+            saved.write_settings()
         except OSError as why:
             raise SaveFault(f"{folder} can't be used: {why.strerror}") from None
         saved.add_packets(saved.opening(map_lines))
@@ -130,7 +142,7 @@ class Saved:
 
 
 def _locked(folder: str) -> BinaryIO:
-    file = open(os.path.join(folder, "lock"), "wb")
+    file = open(os.path.join(folder, "lock"), "ab")
     try:
         fcntl.flock(file, fcntl.LOCK_EX | fcntl.LOCK_NB)
     except OSError:

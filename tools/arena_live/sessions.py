@@ -22,6 +22,8 @@ NO_TOKEN = bytes(TOKEN_BYTES)
 MOST_MESSAGE = 256
 MOST_PLAYERS, MOST_WATCHERS = 64, 256
 PACKETS_A_FRAME, MOVES_A_FRAME = 7, 8
+# Names of refusals that a client is told at once.
+MOST_TOLD = 64
 # A second of moves at once at the most, and no more than the time that has passed.
 CREDIT_MS = 1000.0
 SILENCE = 5.0
@@ -37,6 +39,7 @@ class Session:
     kind: str  # "udp", "page" or "bot"
     send: Callable[[bytes], None]
     heard: float
+    is_known: bool  # whether the address is its own: a datagram may name another's, which is sent a welcome alone
     token: bytes = NO_TOKEN
     port: int = 0
     plays: bool = False
@@ -96,7 +99,7 @@ class Sessions:
                 self._metrics.refusals["front-full"] += 1
                 send(GOODBYE + b"full")
                 return None
-            session = Session(address, kind, send, now, credited=now)
+            session = Session(address, kind, send, now, kind != "udp", credited=now)
             self._by_address[address] = session
             self._renew(session)
         self.welcome(session)
@@ -112,7 +115,7 @@ class Sessions:
         elif session is None or session.address != address:
             self._refuse(None, "front-token")
         else:
-            session.heard = now
+            session.heard, session.is_known = now, True
             body = data[TOKEN_BYTES:]
             if body[:1] == b"\x00":
                 self._take_wish(session, body)
@@ -139,8 +142,12 @@ class Sessions:
         for session in self:
             if now - session.heard > SILENCE and session.kind != "bot":
                 self._refuse(None, "front-silent")
-                session.send(GOODBYE + b"silent")
+                self.say_goodbye(session, b"silent")
                 self.close(session.address)
+
+    def say_goodbye(self, session: Session, why: bytes) -> None:
+        if session.is_known:
+            session.send(GOODBYE + why)
 
     def _take_wish(self, session: Session, body: bytes) -> None:
         if len(body) == 3 and body[:2] == WATCH and body[2] < MOST_PLAYERS:
@@ -181,7 +188,7 @@ class Sessions:
 
     def _refuse(self, session: Optional[Session], name: str) -> None:
         self._metrics.refusals[name] += 1
-        if session is not None:
+        if session is not None and len(session.refusals) < MOST_TOLD:
             session.refusals.append(name)
 
     # What a frame does.

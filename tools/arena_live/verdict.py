@@ -4,6 +4,7 @@ from contextlib import suppress
 from dataclasses import dataclass
 from typing import BinaryIO, Iterable
 
+import arena
 from arena_live.pipe import close_input
 from arena_live.saved import Saved
 
@@ -21,30 +22,44 @@ class Verdict:
 
 
 async def judge(program: str, saved: Saved) -> Verdict:
+    try:
+        return await _judged(program, saved)
+    except OSError as why:
+        return Verdict(NOT_JUDGED, f"{why.filename or program}: {why.strerror}")
+
+
+async def _judged(program: str, saved: Saved) -> Verdict:
     pipes = dict.fromkeys(("stdin", "stdout", "stderr"), asyncio.subprocess.PIPE)
     process = await asyncio.create_subprocess_exec(program, "audit", start_new_session=True, **pipes)
     feeding = asyncio.create_task(_feed(process, _log(saved)))
-    said, why, status = await process.stdout.read(), await process.stderr.read(), await process.wait()
-    await feeding
-    sentence = f"`audit` says: {(said or why).decode('ascii', 'replace').strip()}"
+    try:
+        said, why, status = await process.stdout.read(), await process.stderr.read(), await process.wait()
+        await feeding
+    finally:
+        feeding.cancel()
+        if process.returncode is None:
+            process.kill()
+    sentence = f"`audit` says: {arena.printable((said or why).strip())}"
     if status == 0:
         return Verdict(RIGHT, sentence)
     return Verdict(WRONG if status in (1, 6) else NOT_JUDGED, f"{sentence} (status {status})")
 
 
 async def _feed(process: asyncio.subprocess.Process, text: Iterable[bytes]) -> None:
-    # It reads no further than it must, and is gone then.
-    with suppress(BrokenPipeError, ConnectionResetError):
-        piece = bytearray()
-        for part in text:
-            piece += part
-            if len(piece) >= CHUNK:
-                process.stdin.write(bytes(piece))
-                await process.stdin.drain()
-                piece.clear()
-        process.stdin.write(bytes(piece))
-        await process.stdin.drain()
-    await close_input(process)
+    try:
+        # It reads no further than it must, and is gone then.
+        with suppress(BrokenPipeError, ConnectionResetError):
+            piece = bytearray()
+            for part in text:
+                piece += part
+                if len(piece) >= CHUNK:
+                    process.stdin.write(bytes(piece))
+                    await process.stdin.drain()
+                    piece.clear()
+            process.stdin.write(bytes(piece))
+            await process.stdin.drain()
+    finally:
+        await close_input(process)
 
 
 def _log(saved: Saved) -> Iterable[bytes]:

@@ -52,6 +52,8 @@ def brushes_of(lumps: Lumps) -> list[Brush | None]:
     shaders = lumps.rows(SHADERS, "<64sii")
     found = []
     for first, count, shader in lumps.rows(BRUSHES, "<iii"):
+        if min(first, count, shader, *(plane for plane, _ in sides[first : first + count])) < 0:
+            raise MapFault("it is broken: a brush names a part below 0")
         try:
             own = [planes[sides[i][0]] for i in range(first, first + count)]
             contents = shaders[shader][2]

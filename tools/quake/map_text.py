@@ -1,7 +1,7 @@
 """Reads the text of a map (`.map`), as editors of Quake write it: entities with brushes of planes by three points."""
 import re
 
-from .source import LAVA, PLAYER_CLIP, SLIME, SOLID, MapFault, Model, Source, brush_of
+from .source import LAVA, MOST, PLAYER_CLIP, SLIME, SOLID, MapFault, Model, Source, brush_of
 
 NUMBER = r"(-?(?:[0-9]+\.?[0-9]*|\.[0-9]+)(?:[eE][-+]?[0-9]+)?)"
 POINTS = re.compile(r"\(\s*" + r"\s*\)\s*\(\s*".join([r"\s+".join([NUMBER] * 3)] * 3) + r"\s*\)\s*(\S+)")
@@ -22,6 +22,13 @@ def contents_of(texture: str) -> int:
     if name.endswith(("playerclip", "clip")) and not name.endswith(("botclip", "weapclip")):
         return PLAYER_CLIP
     return SOLID
+
+
+def coordinate(word: str, line: int) -> float:
+    value = float(word)
+    if abs(value) > MOST:
+        raise MapFault(f"line {line} has a number that no map has")
+    return value
 
 
 def plane_of(numbers: list[float]):
@@ -72,7 +79,7 @@ def read_map_text(text: str, name: str) -> Source:
         elif depth == 1 and (pair := PAIR.match(line)):
             entity[pair[1].lower()] = pair[2]
         elif depth >= 2 and (found := POINTS.match(line)):
-            planes.append(plane_of([float(part) for part in found.groups()[:9]]))
+            planes.append(plane_of([coordinate(part, number) for part in found.groups()[:9]]))
             textures.append(found[10])
         if depth < 0:
             raise MapFault(f"line {number} closes a brace that isn't open")

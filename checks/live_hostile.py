@@ -1,0 +1,166 @@
+"""What a client that isn't one may try on the front, for `checks/live hostile`: the match goes on by its clock."""
+import asyncio
+import json
+import os
+import resource
+import socket
+import subprocess
+import sys
+import tempfile
+import time
+
+from live import LIVE, MAP, Front, memory_of, want
+
+UPGRADE = "Upgrade: websocket\r\nConnection: Upgrade\r\nSec-WebSocket-Version: 13\r\nSec-WebSocket-Key: AAAAAAAAAAAAAAAAAAAAAA==\r\n"
+# Requests that the front can't take. None of them may say anything on the operator's terminal.
+BAD_REQUESTS = {
+    "an escape": b"\x1b[31mhello\x07\r\n\r\n",
+    "an escape in a path": b"GET /\x1b[2J HTTP/1.1\r\nHost: 127.0.0.1\r\n\r\n",
+    "no host": f"GET /live HTTP/1.0\r\n{UPGRADE}\r\n".encode(),
+    "a host that is none": f"GET /live HTTP/1.1\r\nHost: [\r\n{UPGRADE}\r\n".encode(),
+    "an origin that is none": f"GET /live HTTP/1.1\r\nHost: 127.0.0.1\r\nOrigin: http://[\r\n{UPGRADE}\r\n".encode(),
+    "a path that is none": b"GET http://[/ HTTP/1.1\r\nHost: 127.0.0.1\r\n\r\n",
+    "a long head": b"GET / HTTP/1.1\r\nX: " + b"a" * 40_000 + b"\r\n\r\n",
+    "a body": b"POST /map HTTP/1.1\r\nHost: 127.0.0.1\r\nContent-Length: 1000000000\r\n\r\n" + b"a" * 100_000,
+    "bytes 0": bytes(1000) + b"\r\n\r\n",
+}
+FILES = 256
+
+
+def connected(front):
+    link = socket.create_connection(("127.0.0.1", front.http), 5)
+    link.settimeout(2)
+    return link
+
+
+def bad_requests(front):
+    for name, request in BAD_REQUESTS.items():
+        with connected(front) as link:
+            try:
+                link.sendall(request)
+                said = link.recv(4096)
+            except OSError:
+                said = b""
+        want(said == b"" or said[9:10] == b"4", f"{name} is answered by {said[:60]}")
+
+
+def requests_without_end(front):
+    """One connection that sends requests and reads no answer."""
+    before = memory_of(front.process.pid)
+    with connected(front) as link:
+        try:
+            for _ in range(2_000):
+                link.sendall(b"GET /map HTTP/1.1\r\nHost: 127.0.0.1\r\n\r\n" * 200)
+        except OSError:
+            pass
+    grown = memory_of(front.process.pid) - before
+    want(grown < 20_000, f"requests without end make the front {grown} KiB larger")
+
+
+async def flood(port, seconds):
+    """A page that sends short messages as fast as it can."""
+    reader, writer = await asyncio.open_connection("127.0.0.1", port)
+    writer.write(f"GET /live HTTP/1.1\r\nHost: 127.0.0.1:{port}\r\n{UPGRADE}\r\n".encode())
+    await reader.readuntil(b"\r\n\r\n")
+    until = time.monotonic() + seconds
+    try:
+        while time.monotonic() < until:
+            writer.write(b"\x82\x80\0\0\0\0" * 2_000 + b"\x89\x80\0\0\0\0" * 2_000)
+            await asyncio.wait_for(writer.drain(), seconds)
+    except (OSError, asyncio.TimeoutError):
+        pass
+    writer.close()
+
+
+async def floods(port):
+    await asyncio.gather(*(flood(port, 3) for _ in range(20)))
+
+
+def held_connections(front):
+    """More connections than files, which say nothing: the front answers again once they were told to go."""
+    links = []
+    for _ in range(2 * FILES):
+        try:
+            links.append(connected(front))
+        except OSError:
+            break
+    until = time.monotonic() + 20
+    while time.monotonic() < until:
+        try:
+            front.get("/map")
+            break
+        except OSError:
+            time.sleep(0.5)
+    else:
+        want(False, "connections that say nothing keep all others away")
+    for link in links:
+        link.close()
+
+
+def unanswered_hello(front):
+    """A datagram may come from another's address, so little is sent to one that hasn't shown its token."""
+    with socket.socket(socket.AF_INET, socket.SOCK_DGRAM) as link:
+        link.connect(("127.0.0.1", front.udp))
+        link.send(bytes(16))
+        link.settimeout(6)
+        got = 0
+        try:
+            while True:
+                got += len(link.recv(65_536))
+        except OSError:
+            pass
+        want(got == 24, f"16 bytes from an address that says no more bring it {got}")
+        link.send(bytes(16))
+        token = link.recv(100)[1:17]
+        link.send(token)
+        kinds = {link.recv(65_536)[:1] for _ in range(5)}
+        want(b"\x02" in kinds, f"a client that has shown its token gets {kinds}")
+
+
+def try_hostile(words):
+    with tempfile.TemporaryDirectory(prefix="live-") as top:
+        hard = resource.getrlimit(resource.RLIMIT_NOFILE)
+        resource.setrlimit(resource.RLIMIT_NOFILE, (FILES, hard[1]))
+        try:
+            front = Front(MAP, "--bots", "4", "--match", "200", "--save", os.path.join(top, "match"))
+        finally:
+            resource.setrlimit(resource.RLIMIT_NOFILE, hard)
+        with front:
+            bad_requests(front)
+            requests_without_end(front)
+            asyncio.run(floods(front.http))
+            held_connections(front)
+            unanswered_hello(front)
+            counts = front.metrics()
+            text, status = front.end()
+        late = counts["arena_late_frames_total"]
+        want(status == 0 and text.count("live: right:") >= 2, f"status {status}, {text}")
+        want(all(line.startswith("live: ") for line in text.splitlines()), f"the operator is shown {text[:2000]}")
+        want(late < 20, f"{late} frames are late")
+        folders_of_others(top)
+        print(f"hostile: bad requests, floods and held connections: {late:.0f} late frames, and each match is right")
+
+
+def folders_of_others(top):
+    """A folder to resume or to save into may be anybody's: nothing else than a match in it is changed."""
+    folder, victim = os.path.join(top, "given"), os.path.join(top, "victim.demo")
+    os.mkdir(folder)
+    texts = {victim: "arena\nframe\nfrom", os.path.join(folder, "lock"): "kept", os.path.join(folder, "match.out"): "kept"}
+    for path, text in texts.items():
+        with open(path, "w", encoding="ascii") as file:
+            file.write(text)
+    ways = [[MAP, "--save", folder]]
+    for changed in ({"name": "../victim"}, {"hz": 0}, {"workers": "1"}, {"hz": True}, {"name": None}):
+        ways.append((changed, ["--resume", folder]))
+    for way in ways:
+        given = way
+        if isinstance(way, tuple):
+            changed, given = way
+            with open(os.path.join(folder, "match.json"), "w", encoding="ascii") as file:
+                json.dump({"workers": 1, "hz": 20, "name": "match", **changed}, file)
+        done = subprocess.run([sys.executable, LIVE, *given], capture_output=True, text=True, timeout=30)
+        want(done.returncode == 2 and "Traceback" not in done.stderr, f"{given}: status {done.returncode}, {done.stderr}")
+    for path, text in texts.items():
+        with open(path, encoding="ascii") as file:
+            want(file.read() == text, f"{os.path.basename(path)} is changed")
+    want(not os.path.exists(os.path.join(folder, "match.demo")), "a folder that isn't taken gets a recording")
