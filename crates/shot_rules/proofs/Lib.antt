@@ -1,6 +1,7 @@
 -- Lemmas on shots.
 pub mod Stoppers
 pub mod Nearest
+pub mod Swept
 pub mod Ways
 pub mod Walks
 pub mod Hits

@@ -6,7 +6,7 @@ use Rattle.std.proofs.lemmas.List.{append_assoc}
 use Rattle.std.proofs.lemmas.List.Folds.{list_any-append}
 use Rattle.arena_geo.specs.declared.vec3.Vec3.{Vec3}
 use Rattle.arena_geo.specs.Bounds.{Bounds}
-use Rattle.arena_geo.specs.Boxes.{overlaps, is_blocked}
+use Rattle.arena_geo.specs.Boxes.{overlaps, is_blocked, hull}
 use Rattle.box_trace.specs.Steps.{step_count, body_at}
 use Rattle.box_trace.specs.Traces.{IsFree, trace_of}
 use Rattle.box_trace.proofs.FirstMeetings.{IsFree-more}
@@ -113,12 +113,13 @@ none_yet false true = refl
 none_yet false false = refl
 
 pub meeting_at_first : (body : Bounds) (way : Vec3) (fixed : List Bounds) (m : Met) → m.steps ≡ (trace_of body way (fixed ++ [])).steps
-    → m.target ≡ None → IsMeeting body way fixed [] m
+    → m.swept ≡ hull body (body_at body way m.steps) → m.target ≡ None → IsMeeting body way fixed [] m
 unfolding the_none
-meeting_at_first body way fixed m steps target =
+meeting_at_first body way fixed m steps swept target =
     let came = (trace_of body way (fixed ++ [])).steps in
     record {
       steps = steps;
+      swept = swept;
       target = target ∙ sym (none_yet (came == step_count way) (is_blocked (body_at body way (came + 1)) fixed)) ∙ sym (target_is body way fixed []);
     }
 
@@ -139,10 +140,11 @@ module _ (body : Bounds) (way : Vec3) (fixed : List Bounds) (near : List Rec) (r
       ap (λ (l : List Bounds). fixed ++ l) (bodies_with_solid near r solid) ∙ sym (append_assoc fixed (bodies_of_solids near) (body_of r ∷ []))
 
   -- a solid that stops the box earlier is what it meets first
-  pub with_nearer : (steps : ℕ) (m : Met) → IsMeeting body way fixed near m → is_solid r.kind ≡ true
+  pub with_nearer : (steps : ℕ) (swept : Bounds) (m : Met) → IsMeeting body way fixed near m → is_solid r.kind ≡ true
       → steps ≡ (trace_of body way (body_of r ∷ [])).steps → steps < m.steps
-      → IsMeeting body way fixed (near ++ r ∷ []) (record { steps = steps; target = Some r })
-  with_nearer steps m is solid steps_is nearer =
+      → swept ≡ hull body (body_at body way steps)
+      → IsMeeting body way fixed (near ++ r ∷ []) (record { steps = steps; swept = swept; target = Some r })
+  with_nearer steps swept m is solid steps_is nearer swept_is =
       let all = all_with_solid solid in
       let first = IsTrace-trace_of body way solids in
       let less : (trace_of body way (body_of r ∷ [])).steps < came = omega (arith, nearer, is.steps, steps_is) in
@@ -157,6 +159,7 @@ module _ (body : Bounds) (way : Vec3) (fixed : List Bounds) (near : List Rec) (r
       let in_way : is_in_way there r ≡ true = ap (λ (t : Bool). t && overlaps there (body_of r)) solid ∙ or_nothing (overlaps there (body_of r)) stops in
       record {
         steps = sym same;
+        swept = swept_is;
         target =
             sym (stopper_is_last there fixed near r (clear_where_free there fixed near free) in_way)
             ∙ sym (ap (λ (w : Bool). cond w None (stopper_at there fixed (near ++ r ∷ []))) part)
@@ -173,6 +176,7 @@ module _ (body : Bounds) (way : Vec3) (fixed : List Bounds) (near : List Rec) (r
       ap (λ (l : List Bounds). (trace_of body way l).steps) all ∙ steps_with_farther body way solids (body_of r) (omega (arith, farther, is.steps, steps_is)) in
       record {
         steps = is.steps ∙ sym same;
+        swept = is.swept;
         target =
             is.target
             ∙ target_is body way fixed near
@@ -200,6 +204,7 @@ module _ (body : Bounds) (way : Vec3) (fixed : List Bounds) (near : List Rec) (r
       let apart : is_in_way there r ≡ false = ap (λ (t : Bool). t && overlaps there (body_of r)) other in
       record {
         steps = is.steps ∙ sym same;
+        swept = is.swept;
         target =
             is.target
             ∙ target_is body way fixed near
