@@ -68,7 +68,8 @@ fn digit(n: u8) -> u8
     requires { n < 16 }
     ensures { result ≡ slice_index lower_digits n }
 {
-    if n < 10 { b'0' + n } else { b'a' + (n - 10) }
+    let before = if n < 10 { b'0' } else { b'a' - 10 };
+    before + n
 }
 
 /// The first digit of a byte.
@@ -110,6 +111,19 @@ fn digits_of(bytes: &[u8]) -> [u8; 16]
     ]
 }
 
+/// The digits of the first 32 bytes.
+fn many_digits_of(bytes: &[u8]) -> [u8; 64]
+    requires { 32 ≤ length bytes.now }
+    ensures { result ≡ encode_lower (take 32 bytes.now) }
+{
+    let mut digits = [0; 64];
+    for i in 0..32 {
+        digits[2 * i] = high(bytes[i]);
+        digits[2 * i + 1] = low(bytes[i]);
+    }
+    digits
+}
+
 /// Puts the digits of a few bytes last, one byte after another.
 fn push_each(out: &mut LineBuf, bytes: &[u8])
     requires { length out.old + 2 * length bytes.now ≤ ROOM }
@@ -120,8 +134,8 @@ fn push_each(out: &mut LineBuf, bytes: &[u8])
     }
 }
 
-/// Puts the digits of a text of bytes last, those of eight bytes at a time.
-fn push_digits(out: &mut LineBuf, bytes: &[u8])
+/// Puts the digits of bytes last, those of eight bytes at a time.
+fn push_few(out: &mut LineBuf, bytes: &[u8])
     requires { length out.old + 2 * length bytes.now ≤ ROOM }
     ensures { out.new ≡ out.old ++ encode_lower bytes.now }
 {
@@ -131,6 +145,20 @@ fn push_digits(out: &mut LineBuf, bytes: &[u8])
         rest = &rest[8..];
     }
     push_each(out, rest);
+}
+
+// So many at once, since to add a few to the list takes as long as to make their digits.
+/// Puts the digits of a text of bytes last, those of 32 bytes at a time.
+fn push_digits(out: &mut LineBuf, bytes: &[u8])
+    requires { length out.old + 2 * length bytes.now ≤ ROOM }
+    ensures { out.new ≡ out.old ++ encode_lower bytes.now }
+{
+    let mut rest = bytes;
+    while rest.len() >= 32 {
+        out.extend(&many_digits_of(rest));
+        rest = &rest[32..];
+    }
+    push_few(out, rest);
 }
 
 /// Prints the line that opens a frame.
