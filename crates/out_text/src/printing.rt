@@ -11,13 +11,14 @@ ghost use Rattle.out_text.specs.Printing.{line_of};
 use crate::names::refusal_name;
 use crate::out_line::OutLine;
 use arena_geo::Vec3;
+use byte_lists::ByteBuf;
 use client_ports::Refusal;
 use edge_io::{LineBuf, ROOM};
 use itoa::Buffer;
 
 /// Puts a number last.
-fn push_number(out: &mut LineBuf, n: u32)
-    requires { length out.old + 10 ≤ ROOM }
+fn push_number<const MOST: usize>(out: &mut ByteBuf<MOST>, n: u32)
+    requires { length out.old + 10 ≤ MOST }
     ensures text { out.new ≡ out.old ++ decimal n }
     ensures short { length out.new ≤ length out.old + 10 }
 {
@@ -125,8 +126,8 @@ fn many_digits_of(bytes: &[u8]) -> [u8; 64]
 }
 
 /// Puts the digits of a few bytes last, one byte after another.
-fn push_each(out: &mut LineBuf, bytes: &[u8])
-    requires { length out.old + 2 * length bytes.now ≤ ROOM }
+fn push_each<const MOST: usize>(out: &mut ByteBuf<MOST>, bytes: &[u8])
+    requires { length out.old + 2 * length bytes.now ≤ MOST }
     ensures { out.new ≡ out.old ++ encode_lower bytes.now }
 {
     for b in bytes {
@@ -135,8 +136,8 @@ fn push_each(out: &mut LineBuf, bytes: &[u8])
 }
 
 /// Puts the digits of bytes last, those of eight bytes at a time.
-fn push_few(out: &mut LineBuf, bytes: &[u8])
-    requires { length out.old + 2 * length bytes.now ≤ ROOM }
+fn push_few<const MOST: usize>(out: &mut ByteBuf<MOST>, bytes: &[u8])
+    requires { length out.old + 2 * length bytes.now ≤ MOST }
     ensures { out.new ≡ out.old ++ encode_lower bytes.now }
 {
     let mut rest = bytes;
@@ -149,8 +150,8 @@ fn push_few(out: &mut LineBuf, bytes: &[u8])
 
 // So many at once, since to add a few to the list takes as long as to make their digits.
 /// Puts the digits of a text of bytes last, those of 32 bytes at a time.
-fn push_digits(out: &mut LineBuf, bytes: &[u8])
-    requires { length out.old + 2 * length bytes.now ≤ ROOM }
+fn push_digits<const MOST: usize>(out: &mut ByteBuf<MOST>, bytes: &[u8])
+    requires { length out.old + 2 * length bytes.now ≤ MOST }
     ensures { out.new ≡ out.old ++ encode_lower bytes.now }
 {
     let mut rest = bytes;
@@ -231,11 +232,11 @@ fn print_did(slot: u8, seq: u32, origin: Vec3, got: &[u16], out: &mut LineBuf)
     push_ids(out, got);
 }
 
-/// Prints the line of a snapshot.
-fn print_to(slot: u8, bytes: &[u8], out: &mut LineBuf)
-    requires empty { out.old ≡ [] }
-    requires short { length bytes.now ≤ REPLY_ROOM }
-    ensures { out.new ≡ lines.line_spelling (ToLine slot bytes.now) }
+/// Prints the line of a snapshot, without its line feed, at the end of a list.
+pub(crate) fn print_to<const MOST: usize>(slot: u8, bytes: &[u8], out: &mut ByteBuf<MOST>)
+    requires { length out.old + 14 + 2 * length bytes.now ≤ MOST }
+    ensures line { out.new ≡ out.old ++ lines.line_spelling (ToLine slot bytes.now) }
+    ensures short { length out.new ≤ length out.old + 14 + 2 * length bytes.now }
 {
     out.extend(b"to ");
     push_number(out, u32::from(slot));
