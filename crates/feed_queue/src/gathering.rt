@@ -25,17 +25,18 @@ fn read_all<N: Ported, R: Wait>(
     line: &Line<N>,
     mut pass: Pass<u32, Hand>,
     count: usize,
+    mut order: PlaceList,
 ) -> (PlaceList, Pass<u32, Hand>)
     requires pass { IsPassOf line.now pass }
     requires fed { view pass ≡ hand (Some (places_below N.ports 0 (length N.ports)))
         (Some (places_below N.ports 1 (length N.ports))) (Some []) }
     requires count { count ≡ length N.ports }
+    requires empty { order ≡ [] }
     requires few { count ≤ MOST_ARRIVALS }
     ensures order { IsOrder N.ports result.0 }
     ensures popped { HasPopped result.1 result.0 }
     ensures pass { IsSamePass pass result.1 }
 {
-    let mut order = PlaceList::new();
     for _ in 0..count {
         let Some(place) = line.pop_as::<Gets<N>, R>(rt, &mut pass) else {
             unreachable!();
@@ -54,10 +55,12 @@ fn gather_through<N: Ported + Send + Sync, R: Threads + Wait + Sync, F: FeedHold
     mut pass: Pass<u32, Hand>,
     arrivals: &[Arrival],
     gate: &F,
+    order: PlaceList,
 ) -> (PlaceList, Pass<u32, Hand>)
     requires pass { IsPassOf line.now pass }
     requires unused { view pass ≡ nothing_done }
     requires fits { Fit N.ports (ruled_capacity line.now) arrivals.now }
+    requires empty { order ≡ [] }
     ensures order { IsOrder N.ports result.0 }
     ensures popped { HasPopped result.1 result.0 }
     ensures pass { IsSamePass pass result.1 }
@@ -81,7 +84,7 @@ fn gather_through<N: Ported + Send + Sync, R: Threads + Wait + Sync, F: FeedHold
     );
     line.absorb::<Evens>(&mut pass, evens);
     line.absorb::<Odds>(&mut pass, odds);
-    read_all::<N, R>(rt, line, pass, arrivals.len())
+    read_all::<N, R>(rt, line, pass, arrivals.len(), order)
 }
 
 /// The order in which two feeders send these packets, with the ports picked.
@@ -96,7 +99,8 @@ fn gather_as<N: Ported + Send + Sync, R: Threads + Wait + Sync, F: FeedHold>(
     ensures { IfOk result (IsOrder N.ports) }
 {
     let (queue, pass) = Line::<N>::ruled(alloc, arrivals.len().max(1))?;
-    let (places, reader) = gather_through::<N, R, F>(rt, &queue, pass, arrivals, gate);
+    let places = PlaceList::new(alloc)?;
+    let (places, reader) = gather_through::<N, R, F>(rt, &queue, pass, arrivals, gate, places);
     Ok(ArrivalOrder::of_popped(places, reader))
 }
 

@@ -1,38 +1,40 @@
-use arrayvec::ArrayVec;
 use packet_read::MOST_ARRIVALS;
+use std::alloc::{AllocError, Global};
 use std::marker::Model;
 
 /// How many places a list has at the most: a frame has no more packets.
 pub const MOST_PLACES: usize = MOST_ARRIVALS as usize;
 
-/// A list of at most [`MOST_PLACES`] places of packets in their frame, from 0, which lie in the value itself and take no
-/// memory.
-#[derive(Debug, PartialEq, Eq, Drop)]
+// On the heap, since an order of arrival is moved with each event, also where there is none.
+/// A list of at most [`MOST_PLACES`] places of packets in their frame, from 0, whose room is reserved from the start:
+/// only `new` takes memory.
+#[derive(Drop)]
 pub struct PlaceList {
-    places: ArrayVec<u32, MOST_PLACES>,
+    places: Vec<u32>,
 }
 
 impl Model for PlaceList {
-    ghost use Rattle.std.specs.Prelude.{ℕ, List};
+    ghost use Rattle.std.specs.Prelude.{ℕ, ◌≤◌, List, vec_len, vec_capacity};
+    ghost use Rattle.feed_queue.specs.declared.place_list.TheConstants.{MOST_PLACES};
 
     ghost Value = { List ℕ };
 
     ghost view = { λ l. l.places.items };
 
-    ghost inverse = { λ places. record { places = record { items = places } } };
+    ghost invariant = { λ l. (vec_len l.places ≤ MOST_PLACES) × (MOST_PLACES ≤ vec_capacity l.places) };
 }
 
 impl PlaceList {
-    ghost use Rattle.std.specs.Prelude.{◌≡◌, ◌<◌, ◌≤◌, ◌↔◌, [], ◌∷◌, ◌++◌, length, IsTrue};
+    ghost use Rattle.std.specs.Prelude.{◌≡◌, ◌<◌, ◌≤◌, ◌↔◌, [], ◌∷◌, ◌++◌, length, IfOk, IsTrue};
     ghost use Rattle.std.specs.Bool.{OnTrue, OnFalse};
 
-    /// No place.
-    pub fn new() -> PlaceList
-        ensures { result ≡ [] }
+    /// No place. The only error is that memory is refused.
+    pub fn new(alloc: Global) -> Result<PlaceList, AllocError>
+        ensures { IfOk result (λ places. places ≡ []) }
     {
-        PlaceList {
-            places: ArrayVec::new(),
-        }
+        Ok(PlaceList {
+            places: Vec::with_capacity(alloc, MOST_PLACES)?,
+        })
     }
 
     /// The places in order.
@@ -49,6 +51,10 @@ impl PlaceList {
         ensures pushed { OnTrue result (self.new ≡ self.old ++ place ∷ []) }
         ensures full { OnFalse result (self.new ≡ self.old) }
     {
-        self.places.try_push(place).is_ok()
+        if self.places.len() == MOST_PLACES {
+            return false;
+        }
+        self.places.push_reserved(place);
+        true
     }
 }

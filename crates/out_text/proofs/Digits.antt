@@ -1,39 +1,11 @@
 -- The digits of bytes, a few at a time.
 use Rattle.std.proofs.Common.{◌≡◌, ℕ, zero, suc, ◌+◌, ◌-◌, ◌*◌, ◌/◌, ◌%◌, ◌<◌, ◌≤◌, List, [], ◌∷◌, ◌++◌, length, get_or, take, drop, refl, ap, sym, ◌∙◌, append_assoc, append-nil, add-one, drop-cons, length-append, length-drop, arith}
-use Rattle.std.specs.Prelude.{slice_index}
+use Rattle.std.specs.Prelude.{slice_index, slice_set}
 use Rattle.hex.specs.Hex.{lower_digits, encode_with, encode_lower}
+use Rattle.std.proofs.lemmas.List.{take_more}
 use Rattle.hex.proofs.HexLemmas.{length-encode_with}
+use Rattle.hex.proofs.Pairs.{take-two_writes}
 use Rattle.snapshot_write.proofs.Blocks.{rest_is}
-
--- the digits from 0 to 9
-pub digit_below_10 : (n : ℕ) → n < 10 → 48 + n ≡ slice_index lower_digits n
-digit_below_10 zero h = refl
-digit_below_10 (suc zero) h = refl
-digit_below_10 (suc (suc zero)) h = refl
-digit_below_10 (suc (suc (suc zero))) h = refl
-digit_below_10 (suc (suc (suc (suc zero)))) h = refl
-digit_below_10 (suc (suc (suc (suc (suc zero))))) h = refl
-digit_below_10 (suc (suc (suc (suc (suc (suc zero)))))) h = refl
-digit_below_10 (suc (suc (suc (suc (suc (suc (suc zero))))))) h = refl
-digit_below_10 (suc (suc (suc (suc (suc (suc (suc (suc zero)))))))) h = refl
-digit_below_10 (suc (suc (suc (suc (suc (suc (suc (suc (suc zero))))))))) h = refl
-digit_below_10 (suc (suc (suc (suc (suc (suc (suc (suc (suc (suc n)))))))))) h = absurd (omega (arith, h))
-
--- the letters, from 10 on
-letter_after_9 : (k : ℕ) → k < 6 → 97 + k ≡ slice_index lower_digits (10 + k)
-letter_after_9 zero h = refl
-letter_after_9 (suc zero) h = refl
-letter_after_9 (suc (suc zero)) h = refl
-letter_after_9 (suc (suc (suc zero))) h = refl
-letter_after_9 (suc (suc (suc (suc zero)))) h = refl
-letter_after_9 (suc (suc (suc (suc (suc zero))))) h = refl
-letter_after_9 (suc (suc (suc (suc (suc (suc n)))))) h = absurd (omega (arith, h))
-
--- the digits from 10 to 15
-pub digit_from_10 : (n : ℕ) → n < 16 → 10 ≤ n → 97 + (n - 10) ≡ slice_index lower_digits n
-digit_from_10 n below from =
-    let same : 10 + (n - 10) ≡ n = omega (arith, from) in
-    letter_after_9 (n - 10) (omega (arith, below, from)) ∙ ap (slice_index lower_digits) same
 
 -- after the digits of the next byte, those of the others are left
 pub one_more : (out all : List ℕ) (bytes : List ℕ) (i d : ℕ) → i < length bytes → out ++ encode_lower (drop i bytes) ≡ all
@@ -51,6 +23,22 @@ pub digits-append : (a b : List ℕ) → encode_lower (a ++ b) ≡ encode_lower 
 unfolding encode_with
 digits-append [] b = refl
 digits-append (x ∷ a) b = ap (λ (l : List ℕ). slice_index lower_digits (x / 16) ∷ slice_index lower_digits (x % 16) ∷ l) (digits-append a b)
+
+-- two digits more, put after those of the bytes before
+pub puts_two : (digits bytes : List ℕ) (i high low : ℕ) → 2 * i + 1 < length digits → i < length bytes
+    → high ≡ slice_index lower_digits (slice_index bytes i / 16) → low ≡ slice_index lower_digits (slice_index bytes i % 16)
+    → take (2 * i) digits ≡ encode_lower (take i bytes)
+    → take (2 * (i + 1)) (slice_set (slice_set digits (2 * i) high) (2 * i + 1) low) ≡ encode_lower (take (i + 1) bytes)
+unfolding encode_with
+puts_two digits bytes i high low room inside is_high is_low so_far =
+    let after : 2 * (i + 1) ≡ 2 * i + 2 = omega arith in
+    ap (λ n. take n (slice_set (slice_set digits (2 * i) high) (2 * i + 1) low)) after
+    ∙ take-two_writes digits (2 * i) high low room
+    ∙ ap (λ (l : List ℕ). l ++ high ∷ low ∷ []) so_far
+    ∙ ap (λ h. encode_lower (take i bytes) ++ h ∷ low ∷ []) is_high
+    ∙ ap (λ n. encode_lower (take i bytes) ++ slice_index lower_digits (slice_index bytes i / 16) ∷ n ∷ []) is_low
+    ∙ sym (digits-append (take i bytes) (slice_index bytes i ∷ []))
+    ∙ ap encode_lower (sym (take_more bytes i 0 inside))
 
 -- the first eight bytes
 pub first_eight : (bytes : List ℕ) → 8 ≤ length bytes

@@ -1,8 +1,12 @@
-ghost use Rattle.std.specs.Prelude.{◌≡◌, ◌+◌, ◌≤◌, [], ◌∷◌, ◌++◌, length, IfOk, OnOk, OnErr, IsOk};
+ghost use Rattle.std.specs.Prelude.{◌≡◌, ◌+◌, ◌*◌, ◌≤◌, [], ◌∷◌, ◌++◌, length, IfOk, OnOk, OnErr, IsOk};
 ghost use Rattle.edge_io.specs.declared.line_buf.TheConstants.{ROOM};
 ghost use Rattle.out_text.specs.Printers.{Prints, FailsIn};
+ghost use Rattle.snapshot_write.specs.declared.reply_buf.TheConstants.{REPLY_ROOM};
+ghost use Rattle.out_text.specs.OutLines.{ToLine, printed_line};
 ghost use Rattle.out_text.specs.declared.pending.TheConstants.{MOST_PENDING};
 
+use crate::printing::print_to;
+use byte_lists::ByteBuf;
 use edge_io::{Failed, Sink, write_whole};
 use std::alloc::{AllocError, Global};
 use std::marker::Model;
@@ -13,18 +17,15 @@ pub const MOST_PENDING: usize = 65_536;
 /// Bytes that wait to be written: at most [`MOST_PENDING`], whose room is reserved from the start.
 #[derive(Drop)]
 pub struct Pending {
-    bytes: Vec<u8>,
+    bytes: ByteBuf<MOST_PENDING>,
 }
 
 impl Model for Pending {
-    ghost use Rattle.std.specs.Prelude.{ℕ, ◌≤◌, List, vec_len, vec_capacity};
-    ghost use Rattle.out_text.specs.declared.pending.TheConstants.{MOST_PENDING};
+    ghost use Rattle.std.specs.Prelude.{ℕ, List};
 
     ghost Value = { List ℕ };
 
-    ghost view = { λ p. p.bytes.items };
-
-    ghost invariant = { λ p. (vec_len p.bytes ≤ MOST_PENDING) × (MOST_PENDING ≤ vec_capacity p.bytes) };
+    ghost view = { λ p. p.bytes };
 }
 
 impl Pending {
@@ -33,7 +34,7 @@ impl Pending {
         ensures { IfOk result (λ pending. pending ≡ []) }
     {
         Ok(Pending {
-            bytes: Vec::with_capacity(alloc, MOST_PENDING)?,
+            bytes: ByteBuf::new(alloc)?,
         })
     }
 
@@ -69,9 +70,8 @@ impl Pending {
         requires { length self.old + (length line.now + 1) ≤ MOST_PENDING }
         ensures { self.new ≡ self.old ++ (line.now ++ 10 ∷ []) }
     {
-        // The room was reserved, so this cannot fail.
-        let _ = self.bytes.extend_from_slice(line);
-        self.bytes.push_reserved(b'\n');
+        self.bytes.extend(line);
+        let _fits = self.bytes.push(b'\n');
     }
 
     /// Puts a line and its line feed last. Where they don't fit, what is pending is written out first. It takes no
@@ -86,6 +86,38 @@ impl Pending {
     {
         self.make_room(line.len() + 1, sink)?;
         self.keep(line);
+        Ok(())
+    }
+
+    /// Puts the line of a snapshot and its line feed last, which fit.
+    fn keep_reply(&mut self, slot: u8, bytes: &[u8])
+        requires { length self.old + (2 * length bytes.now + 15) ≤ MOST_PENDING }
+        ensures { self.new ≡ self.old ++ printed_line (ToLine slot bytes.now) }
+    {
+        print_to(slot, bytes, &mut self.bytes);
+        let _fits = self.bytes.push(b'\n');
+    }
+
+    // Most of the output is snapshots, so their lines are made where they are written from. Their length is known but for
+    // the digits of the slot, for which there is room as for those of any number, 10.
+    /// Puts the line of a snapshot and its line feed last. Where they might not fit, what is pending is written out first.
+    /// It takes no memory.
+    pub fn push_reply<K: Sink>(
+        &mut self,
+        slot: u8,
+        bytes: &[u8],
+        sink: &mut K,
+    ) -> Result<(), Failed>
+        requires { length bytes.now ≤ REPLY_ROOM }
+        ensures ok { OnOk result
+            (Prints K.taken K.faults K.room sink.old sink.new self.old self.new (printed_line (ToLine slot bytes.now))) }
+        ensures err { OnErr result
+            (FailsIn K.taken K.faults sink.old sink.new (self.old ++ printed_line (ToLine slot bytes.now))) }
+        ensures sure { length self.old + length (printed_line (ToLine slot bytes.now)) ≤ K.room sink.old → IsOk result }
+        ensures emptied { OnErr result (self.new ≡ []) }
+    {
+        self.make_room(2 * bytes.len() + 15, sink)?;
+        self.keep_reply(slot, bytes);
         Ok(())
     }
 }

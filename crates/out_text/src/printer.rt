@@ -1,5 +1,6 @@
 ghost use Rattle.std.specs.Prelude.{◌≡◌, ◌+◌, ◌≤◌, [], ◌++◌, length, map, All, IfOk, OnOk, OnErr, IsOk};
-ghost use Rattle.out_text.specs.OutLines.{printed_line, text_of};
+ghost use Rattle.out_text.specs.OutLines.{ToLine, printed_line, text_of};
+ghost use Rattle.snapshot_write.specs.declared.reply_buf.TheConstants.{REPLY_ROOM};
 ghost use Rattle.out_text.specs.FrameLines.{reply_lines, answer_lines, given_lines};
 ghost use Rattle.out_text.specs.Feeds.{with_froms};
 ghost use Rattle.out_text.specs.Printing.{line_of};
@@ -86,6 +87,19 @@ impl Printer {
         Ok(())
     }
 
+    /// Prints the line of the reply to this slot.
+    fn print_reply<K: Sink>(&mut self, slot: u8, bytes: &[u8], sink: &mut K) -> Result<(), Failed>
+        requires { length bytes.now ≤ REPLY_ROOM }
+        ensures ok { OnOk result
+            (Prints K.taken K.faults K.room sink.old sink.new self.old self.new (printed_line (ToLine slot bytes.now))) }
+        ensures err { OnErr result
+            (FailsIn K.taken K.faults sink.old sink.new (self.old ++ printed_line (ToLine slot bytes.now))) }
+        ensures sure { length self.old + length (printed_line (ToLine slot bytes.now)) ≤ K.room sink.old → IsOk result }
+        ensures emptied { OnErr result (self.new ≡ []) }
+    {
+        self.pending.push_reply(slot, bytes, sink)
+    }
+
     /// Prints the line of the reply to each of these slots.
     fn print_replies<K: Sink>(
         &mut self,
@@ -105,7 +119,7 @@ impl Printer {
     {
         for (i, slot) in slots.iter().enumerate() {
             let bytes = replies[i].as_slice();
-            self.print(&OutLine::To { slot: *slot, bytes }, sink)?;
+            self.print_reply(*slot, bytes, sink)?;
         }
         Ok(())
     }

@@ -11,13 +11,14 @@ ghost use Rattle.out_text.specs.Printing.{line_of};
 use crate::names::refusal_name;
 use crate::out_line::OutLine;
 use arena_geo::Vec3;
+use byte_lists::ByteBuf;
 use client_ports::Refusal;
 use edge_io::{LineBuf, ROOM};
 use itoa::Buffer;
 
 /// Puts a number last.
-fn push_number(out: &mut LineBuf, n: u32)
-    requires { length out.old + 10 ≤ ROOM }
+fn push_number<const MOST: usize>(out: &mut ByteBuf<MOST>, n: u32)
+    requires { length out.old + 10 ≤ MOST }
     ensures text { out.new ≡ out.old ++ decimal n }
     ensures short { length out.new ≤ length out.old + 10 }
 {
@@ -68,7 +69,8 @@ fn digit(n: u8) -> u8
     requires { n < 16 }
     ensures { result ≡ slice_index lower_digits n }
 {
-    if n < 10 { b'0' + n } else { b'a' + (n - 10) }
+    let before = if n < 10 { b'0' } else { b'a' - 10 };
+    before + n
 }
 
 /// The first digit of a byte.
@@ -110,9 +112,22 @@ fn digits_of(bytes: &[u8]) -> [u8; 16]
     ]
 }
 
+/// The digits of the first 32 bytes.
+fn many_digits_of(bytes: &[u8]) -> [u8; 64]
+    requires { 32 ≤ length bytes.now }
+    ensures { result ≡ encode_lower (take 32 bytes.now) }
+{
+    let mut digits = [0; 64];
+    for i in 0..32 {
+        digits[2 * i] = high(bytes[i]);
+        digits[2 * i + 1] = low(bytes[i]);
+    }
+    digits
+}
+
 /// Puts the digits of a few bytes last, one byte after another.
-fn push_each(out: &mut LineBuf, bytes: &[u8])
-    requires { length out.old + 2 * length bytes.now ≤ ROOM }
+fn push_each<const MOST: usize>(out: &mut ByteBuf<MOST>, bytes: &[u8])
+    requires { length out.old + 2 * length bytes.now ≤ MOST }
     ensures { out.new ≡ out.old ++ encode_lower bytes.now }
 {
     for b in bytes {
@@ -120,9 +135,9 @@ fn push_each(out: &mut LineBuf, bytes: &[u8])
     }
 }
 
-/// Puts the digits of a text of bytes last, those of eight bytes at a time.
-fn push_digits(out: &mut LineBuf, bytes: &[u8])
-    requires { length out.old + 2 * length bytes.now ≤ ROOM }
+/// Puts the digits of bytes last, those of eight bytes at a time.
+fn push_few<const MOST: usize>(out: &mut ByteBuf<MOST>, bytes: &[u8])
+    requires { length out.old + 2 * length bytes.now ≤ MOST }
     ensures { out.new ≡ out.old ++ encode_lower bytes.now }
 {
     let mut rest = bytes;
@@ -131,6 +146,20 @@ fn push_digits(out: &mut LineBuf, bytes: &[u8])
         rest = &rest[8..];
     }
     push_each(out, rest);
+}
+
+// So many at once, since to add a few to the list takes as long as to make their digits.
+/// Puts the digits of a text of bytes last, those of 32 bytes at a time.
+fn push_digits<const MOST: usize>(out: &mut ByteBuf<MOST>, bytes: &[u8])
+    requires { length out.old + 2 * length bytes.now ≤ MOST }
+    ensures { out.new ≡ out.old ++ encode_lower bytes.now }
+{
+    let mut rest = bytes;
+    while rest.len() >= 32 {
+        out.extend(&many_digits_of(rest));
+        rest = &rest[32..];
+    }
+    push_few(out, rest);
 }
 
 /// Prints the line that opens a frame.
@@ -203,11 +232,11 @@ fn print_did(slot: u8, seq: u32, origin: Vec3, got: &[u16], out: &mut LineBuf)
     push_ids(out, got);
 }
 
-/// Prints the line of a snapshot.
-fn print_to(slot: u8, bytes: &[u8], out: &mut LineBuf)
-    requires empty { out.old ≡ [] }
-    requires short { length bytes.now ≤ REPLY_ROOM }
-    ensures { out.new ≡ lines.line_spelling (ToLine slot bytes.now) }
+/// Prints the line of a snapshot, without its line feed, at the end of a list.
+pub(crate) fn print_to<const MOST: usize>(slot: u8, bytes: &[u8], out: &mut ByteBuf<MOST>)
+    requires { length out.old + 14 + 2 * length bytes.now ≤ MOST }
+    ensures line { out.new ≡ out.old ++ lines.line_spelling (ToLine slot bytes.now) }
+    ensures short { length out.new ≤ length out.old + 14 + 2 * length bytes.now }
 {
     out.extend(b"to ");
     push_number(out, u32::from(slot));

@@ -1,9 +1,7 @@
 -- What a walk along the live ids finds in a view, and that a player sees at most all ids but its own.
-use Rattle.std.proofs.Common.{◌≡◌, ℕ, zero, suc, ◌+◌, ◌*◌, ◌^◌, ◌<◌, ◌≤◌, ◌==◌, Bool, true, false, ◌&&◌, not, cond, if◌then◌else◌, List, [], ◌∷◌, ◌++◌, length, filter, flat_map, take, drop, get_or, Option, Some, None, is_some, append_assoc, zero-add, sym, refl, ap, ◌∙◌, arith}
-use Rattle.std.specs.Int.{from_bool}
+use Rattle.std.proofs.Common.{◌≡◌, ℕ, zero, suc, ◌+◌, ◌*◌, ◌<◌, ◌≤◌, ◌==◌, Bool, true, false, ◌&&◌, not, cond, if◌then◌else◌, List, [], ◌∷◌, ◌++◌, length, length-append, map, filter, flat_map, drop, get_or, Option, Some, None, is_some, append_assoc, zero-add, sym, refl, ap, ◌∙◌, arith}
 use Rattle.std.specs.Option.{option_map}
 use Rattle.std.proofs.lemmas.List.{drop_more, get_or-map, length-map}
-use Rattle.std.proofs.lemmas.List.Filters.{length-filter_more}
 use Rattle.std.proofs.lemmas.Option.{none-some, same_Some}
 use Rattle.std.proofs.Math.Bool.{and-false}
 use Rattle.std.proofs.lemmas.Bool.{eq-eqb}
@@ -13,7 +11,6 @@ use Rattle.entity_recs.specs.declared.kind.Kind.TheVariants.{Player}
 use Rattle.entity_recs.specs.declared.rec.Rec.{Rec}
 use Rattle.entity_recs.specs.Bodies.{abs_of}
 use Rattle.world_tree.specs.Live.{record_at, live_in, ids_of, AreEntries}
-use Rattle.world_tree.proofs.Kept.{few_live}
 use Rattle.entity_recs.specs.declared.limits.TheConstants.{IDS}
 use Rattle.snapshot_write.specs.declared.reply_buf.TheConstants.{REPLY_ROOM}
 use Rattle.snapshot_write.specs.declared.seen.TheConstants.{MOST_SEEN}
@@ -62,19 +59,25 @@ id-has_record start f (Some r ∷ records) gives own (suc k) below =
     (λ i. let later : start + 1 + i ≡ start + suc i = omega arith in ap f later ∙ gives (suc i))
     (λ i x e. own (suc i) x e ∙ omega arith) k (omega arith)
 
+-- the ids of records
+abbrev pub ids_in : List Rec → List ℕ
+ids_in records = map (λ (r : Rec). r.id) records
+
+length-ids : (records : List Rec) → length (ids_in records) ≡ length records
+length-ids records = simp length-map
+
+-- the live id at a place is that of the live record there
+id-at_live : (records : List (Option Rec)) (ids : List ℕ) (k d : ℕ) → ids ≡ ids_of records → k < length ids → get_or ids k d ≡ (live_at records k).id
+id-at_live records ids k d are below =
+    ap (λ l. get_or l k d) are ∙ get_or-map (λ (r : Rec). r.id) (live_in records) k nobody d (by_ids records ids k are below)
+
 -- the record of the live id at a place is the live record there
 pub record-at_live : (records : List (Option Rec)) (ids : List ℕ) (k d : ℕ) → AreEntries records → ids ≡ ids_of records → k < length ids
     → record_at records (get_or ids k d) ≡ Some (live_at records k)
 record-at_live records ids k d entries are below =
     let within : k < length (live_in records) = by_ids records ids k are below in
-    let here : get_or ids k d ≡ (live_at records k).id = ap (λ l. get_or l k d) are ∙ get_or-map (λ (r : Rec). r.id) (live_in records) k nobody d within in
-    ap (record_at records) here
+    ap (record_at records) (id-at_live records ids k d are below)
     ∙ id-has_record 0 (record_at records) records (λ i. ap (record_at records) (zero-add i)) (λ i r e. (entries i r e).own_id ∙ omega arith) k within
-
--- what is seen at a live id is the live record there, where it is in the view
-pub seen-at_live : (records : List (Option Rec)) (ids : List ℕ) (k d me : ℕ) (view : Bounds) → AreEntries records → ids ≡ ids_of records → k < length ids
-    → in_view_at view me (record_at records (get_or ids k d)) ≡ (if is_in_view view me (live_at records k) then Some (live_at records k) else None)
-seen-at_live records ids k d me view entries are below = ap (in_view_at view me) (record-at_live records ids k d entries are below)
 
 -- ---- whether an id is in the view, by its box
 
@@ -92,91 +95,102 @@ seen_by_box (Some r) box view me id is own =
 
 -- ---- what a loop over the live ids keeps
 
-as_number : (b : Bool) → from_bool b ≡ cond b 1 0
-as_number true = refl
-as_number false = refl
-
--- the count of those in view
-pub counting : (records : List (Option Rec)) (ids : List ℕ) (k d me count more : ℕ) (view : Bounds) → AreEntries records → ids ≡ ids_of records → k < length ids
-    → more ≡ count + from_bool (is_some (in_view_at view me (record_at records (get_or ids k d))))
-    → count ≡ length (in_view view me (take k (live_in records))) → more ≡ length (in_view view me (take (k + 1) (live_in records)))
-counting records ids k d me count more view entries are below grows so_far =
-    let within : k < length (live_in records) = by_ids records ids k are below in
-    let seen : is_some (in_view_at view me (record_at records (get_or ids k d))) ≡ is_in_view view me (live_at records k) =
-    ap (λ (o : Option Rec). is_some o) (seen-at_live records ids k d me view entries are below) ∙ is_some-if (is_in_view view me (live_at records k)) (live_at records k) in
-    grows ∙ ap (λ b. count + from_bool b) seen ∙ ap (λ n. n + from_bool (is_in_view view me (live_at records k))) so_far
-    ∙ ap (λ n. length (in_view view me (take k (live_in records))) + n) (as_number (is_in_view view me (live_at records k)))
-    ∙ sym (length-filter_more (is_in_view view me) (live_in records) k nobody within)
-
-pub at_most_one : (b : Bool) → from_bool b ≤ 1
-at_most_one true = omega arith
-at_most_one false = omega arith
-
--- there are no more than there are ids
-pub count_fits : (records : List (Option Rec)) (ids : List ℕ) (k count : ℕ) (seen : Bool) → length records ≡ IDS → ids ≡ ids_of records → k < length ids → count ≤ k
-    → count + from_bool seen < 2 ^ 16
-count_fits records ids k count seen places are below least =
-    let few = few_live records in
-    omega (arith, ap (λ (l : List ℕ). length l) are, at_most_one seen)
-
--- the bytes of those in view that are left
-abbrev pub bytes_left : Bounds → ℕ → List Rec → ℕ → List ℕ
-bytes_left view me records k = flat_map entity_bytes (in_view view me (drop k records))
-
--- the bytes put so far and those that are left are all, and there is room for them
-pub record KeepsPushing (records : List (Option Rec)) (me : ℕ) (view : Bounds) (k : ℕ) (out all : List ℕ) : Type 0 where
-  pub room : length out + 16 * length (in_view view me (drop k (live_in records))) ≤ REPLY_ROOM
-  pub bytes : out ++ bytes_left view me (live_in records) k ≡ all
+-- the ids found so far and those of the records in view that are left are all
+abbrev pub KeepsIds : List (Option Rec) → ℕ → Bounds → ℕ → List ℕ → Type 0
+KeepsIds records me view k found = found ++ ids_in (in_view view me (drop k (live_in records))) ≡ ids_in (in_view view me (live_in records))
 
 module _ (records : List (Option Rec)) (ids : List ℕ) (k d me : ℕ) (view : Bounds) (entries : AreEntries records) (are : ids ≡ ids_of records) (below : k < length ids) where
   -- the live record at the place, and those after it
   live-from : drop k (live_in records) ≡ live_at records k ∷ drop (k + 1) (live_in records)
-  live-from =
-      let within : k < length (live_in records) = by_ids records ids k are below in
-      drop_more (live_in records) k nobody within
+  live-from = drop_more (live_in records) k nobody (by_ids records ids k are below)
 
-  seen-first : (r : Rec) → in_view_at view me (record_at records (get_or ids k d)) ≡ Some r
-      → in_view view me (drop k (live_in records)) ≡ r ∷ in_view view me (drop (k + 1) (live_in records))
-  seen-first r seen = ap (in_view view me) live-from ∙ by_test (is_in_view view me (live_at records k)) (sym (seen-at_live records ids k d me view entries are below) ∙ seen)
-    where
-      rest : List Rec
-      rest = in_view view me (drop (k + 1) (live_in records))
+  -- it is in the view where its id is found there
+  test-is : is_some (in_view_at view me (record_at records (get_or ids k d))) ≡ is_in_view view me (live_at records k)
+  test-is =
+      ap (λ (o : Option Rec). is_some (in_view_at view me o)) (record-at_live records ids k d entries are below)
+      ∙ is_some-if (is_in_view view me (live_at records k)) (live_at records k)
 
-      by_test : (b : Bool) → (if b then Some (live_at records k) else None) ≡ Some r → (if b then live_at records k ∷ rest else rest) ≡ r ∷ rest
-      by_test true e = ap (λ (x : Rec). x ∷ rest) (same_Some (live_at records k) r e)
-      by_test false e = absurd (none-some r e)
+  -- those in the view after it
+  abbrev rest : List Rec
+  rest = in_view view me (drop (k + 1) (live_in records))
 
-  unseen-first : in_view_at view me (record_at records (get_or ids k d)) ≡ None
-      → in_view view me (drop k (live_in records)) ≡ in_view view me (drop (k + 1) (live_in records))
-  unseen-first unseen = ap (in_view view me) live-from ∙ by_test (is_in_view view me (live_at records k)) (sym (seen-at_live records ids k d me view entries are below) ∙ unseen)
-    where
-      rest : List Rec
-      rest = in_view view me (drop (k + 1) (live_in records))
+  seen-first : (b : Bool) → is_some (in_view_at view me (record_at records (get_or ids k d))) ≡ b
+      → in_view view me (drop k (live_in records)) ≡ (if b then live_at records k ∷ rest else rest)
+  seen-first b seen = ap (in_view view me) live-from ∙ ap (λ test. if test then live_at records k ∷ rest else rest) (sym test-is ∙ seen)
 
-      by_test : (b : Bool) → (if b then Some (live_at records k) else None) ≡ None → (if b then live_at records k ∷ rest else rest) ≡ rest
-      by_test true e = absurd (none-some (live_at records k) (sym e))
-      by_test false e = refl
+  pub keeps_seen : (found : List ℕ) → is_some (in_view_at view me (record_at records (get_or ids k d))) ≡ true
+      → KeepsIds records me view k found → KeepsIds records me view (k + 1) (found ++ get_or ids k d ∷ [])
+  keeps_seen found seen keeps =
+      append_assoc found (get_or ids k d ∷ []) (ids_in rest)
+      ∙ ap (λ id. found ++ id ∷ ids_in rest) (id-at_live records ids k d are below)
+      ∙ ap (λ (l : List Rec). found ++ ids_in l) (sym (seen-first true seen)) ∙ keeps
 
-  pub pushes_seen : (r : Rec) (out more all : List ℕ) → in_view_at view me (record_at records (get_or ids k d)) ≡ Some r → more ≡ out ++ entity_bytes r → length more ≡ length out + 16
-      → KeepsPushing records me view k out all → KeepsPushing records me view (k + 1) more all
-  pushes_seen r out more all seen is longer keeps = record {
-    room = omega (arith, longer, ap (λ (l : List Rec). length l) (seen-first r seen), keeps.room);
-    bytes =
-        ap (λ l. l ++ bytes_left view me (live_in records) (k + 1)) is
-        ∙ append_assoc out (entity_bytes r) (bytes_left view me (live_in records) (k + 1))
-        ∙ ap (λ l. out ++ flat_map entity_bytes l) (sym (seen-first r seen)) ∙ keeps.bytes;
-  }
-
-  pub passes_unseen : (out more all : List ℕ) → in_view_at view me (record_at records (get_or ids k d)) ≡ None → more ≡ out
-      → KeepsPushing records me view k out all → KeepsPushing records me view (k + 1) more all
-  passes_unseen out more all unseen same keeps = record {
-    room = omega (arith, ap (λ (l : List ℕ). length l) same, ap (λ (l : List Rec). length l) (unseen-first unseen), keeps.room);
-    bytes = ap (λ l. l ++ bytes_left view me (live_in records) (k + 1)) same ∙ ap (λ l. out ++ flat_map entity_bytes l) (sym (unseen-first unseen)) ∙ keeps.bytes;
-  }
+  pub passes_unseen : (found : List ℕ) → is_some (in_view_at view me (record_at records (get_or ids k d))) ≡ false
+      → KeepsIds records me view k found → KeepsIds records me view (k + 1) found
+  passes_unseen found unseen keeps = ap (λ (l : List Rec). found ++ ids_in l) (sym (seen-first false unseen)) ∙ keeps
 
   -- there is room for one that is seen
-  pub room_for_one : (r : Rec) (out all : List ℕ) → in_view_at view me (record_at records (get_or ids k d)) ≡ Some r → KeepsPushing records me view k out all → length out + 16 ≤ REPLY_ROOM
-  room_for_one r out all seen keeps = omega (arith, ap (λ (l : List Rec). length l) (seen-first r seen), keeps.room)
+  pub room_for_one : (found : List ℕ) → is_some (in_view_at view me (record_at records (get_or ids k d))) ≡ true
+      → length (in_view view me (live_in records)) ≤ MOST_SEEN → KeepsIds records me view k found → length found < MOST_SEEN
+  room_for_one found seen few keeps =
+      let all : length found + length (ids_in (in_view view me (drop k (live_in records)))) ≡ length (ids_in (in_view view me (live_in records))) =
+      sym (length-append found _) ∙ ap (λ (l : List ℕ). length l) keeps in
+      let first : length (in_view view me (drop k (live_in records))) ≡ suc (length rest) = ap (λ (l : List Rec). length l) (seen-first true seen) in
+      omega (arith, all, first, few, length-ids (in_view view me (drop k (live_in records))), length-ids (in_view view me (live_in records)))
+
+-- ---- what a loop over the ids that are seen keeps
+
+-- what holds of each record holds of each that passes a test
+passing : (p : Rec → Bool) (P : Rec → Type 0) (xs : List Rec) → ((k : ℕ) → k < length xs → P (get_or xs k nobody))
+    → (k : ℕ) → k < length (filter p xs) → P (get_or (filter p xs) k nobody)
+passing p P [] all k below = absurd (omega (arith, below))
+passing p P (x ∷ xs) all k below = by_test (p x) (passing p P xs (λ i within. all (suc i) (omega (arith, within)))) k below
+  where
+    by_test : (b : Bool) → ((k : ℕ) → k < length (filter p xs) → P (get_or (filter p xs) k nobody))
+        → (k : ℕ) → k < length (cond b (x ∷ filter p xs) (filter p xs)) → P (get_or (cond b (x ∷ filter p xs) (filter p xs)) k nobody)
+    by_test true after zero below = all 0 (omega arith)
+    by_test true after (suc k) below = after k (omega (arith, below))
+    by_test false after k below = after k below
+
+-- each of these records is the one of its id
+abbrev pub AreOfWorld : List (Option Rec) → List Rec → Type 0
+AreOfWorld records seen = (k : ℕ) → k < length seen → record_at records (get_or seen k nobody).id ≡ Some (get_or seen k nobody)
+
+pub seen-of_world : (records : List (Option Rec)) (me : ℕ) (view : Bounds) → AreEntries records → AreOfWorld records (in_view view me (live_in records))
+seen-of_world records me view entries =
+    passing (is_in_view view me) (λ r. record_at records r.id ≡ Some r) (live_in records)
+    (λ k below. id-has_record 0 (record_at records) records (λ i. ap (record_at records) (zero-add i)) (λ i r e. (entries i r e).own_id ∙ omega arith) k below)
+
+-- the bytes put so far and those of the records that are left are all, and there is room for them
+pub record KeepsPushing (seen : List Rec) (k : ℕ) (out all : List ℕ) : Type 0 where
+  pub room : length out + 16 * length (drop k seen) ≤ REPLY_ROOM
+  pub bytes : out ++ flat_map entity_bytes (drop k seen) ≡ all
+
+module _ (records : List (Option Rec)) (seen : List Rec) (ids : List ℕ) (k d : ℕ) (are : ids ≡ ids_in seen) (below : k < length ids) where
+  within : k < length seen
+  within = omega (arith, ap (λ (l : List ℕ). length l) are, length-ids seen, below)
+
+  left : drop k seen ≡ get_or seen k nobody ∷ drop (k + 1) seen
+  left = drop_more seen k nobody within
+
+  -- the record of the id at a place
+  pub record-at_seen : AreOfWorld records seen → record_at records (get_or ids k d) ≡ Some (get_or seen k nobody)
+  record-at_seen of =
+      ap (record_at records) (ap (λ (l : List ℕ). get_or l k d) are ∙ get_or-map (λ (r : Rec). r.id) seen k nobody d within) ∙ of k within
+
+  pub room_for_next : (out all : List ℕ) → KeepsPushing seen k out all → length out + 16 ≤ REPLY_ROOM
+  room_for_next out all keeps = omega (arith, ap (λ (l : List Rec). length l) left, keeps.room)
+
+  pub pushes_next : (r : Rec) (out more all : List ℕ) → get_or seen k nobody ≡ r → more ≡ out ++ entity_bytes r → length more ≡ length out + 16
+      → KeepsPushing seen k out all → KeepsPushing seen (k + 1) more all
+  pushes_next r out more all there is longer keeps = record {
+    room = omega (arith, longer, ap (λ (l : List Rec). length l) left, keeps.room);
+    bytes =
+        ap (λ l. l ++ flat_map entity_bytes (drop (k + 1) seen)) is
+        ∙ append_assoc out (entity_bytes r) (flat_map entity_bytes (drop (k + 1) seen))
+        ∙ ap (λ (x : Rec). out ++ (entity_bytes x ++ flat_map entity_bytes (drop (k + 1) seen))) (sym there)
+        ∙ ap (λ (l : List Rec). out ++ flat_map entity_bytes l) (sym left) ∙ keeps.bytes;
+  }
 
 -- ---- a player doesn't see itself, so it sees few
 

@@ -34,13 +34,19 @@ seen_is records slot id place me view up entries is_view =
     ap (λ box. in_view box id (live_in records)) is_view
     ∙ ap (λ n. in_view (view_of me.origin) n (live_in records)) (up.same ∙ sym (entry_at records slot id place me up entries).own_id)
 
+-- it is few
+pub few_in_view : (records : List (Option Rec)) (slot id : ℕ) (place : Option Rec) (me : Rec) (seen : List Rec) → IsLookedUp records slot id place me → length records ≡ IDS
+    → seen ≡ seen_by me (live_in records) → length seen ≤ MOST_SEEN
+few_in_view records slot id place me seen up places is =
+    let few : length (seen_by me (live_in records)) ≤ MOST_SEEN = few_are_seen me records slot places (at_place records slot id place me up) in
+    omega (arith, few, ap (λ (l : List Rec). length l) is)
+
 -- there is room for it
 pub room_for : (records : List (Option Rec)) (slot id : ℕ) (place : Option Rec) (me : Rec) (seen : List Rec) (own : ℕ) → IsLookedUp records slot id place me → length records ≡ IDS
     → seen ≡ seen_by me (live_in records) → own ≡ 41 → own + 2 + 16 * length seen ≤ REPLY_ROOM
 room_for records slot id place me seen own up places is length_is =
-    let few : length (seen_by me (live_in records)) ≤ MOST_SEEN = few_are_seen me records slot places (at_place records slot id place me up) in
-    let same : length seen ≡ length (seen_by me (live_in records)) = ap length is in
-    omega arith
+    let few : length seen ≤ MOST_SEEN = few_in_view records slot id place me seen up places is in
+    omega (arith, few, length_is)
 
 -- the bytes of the player and those of what it sees are its snapshot
 pub snapshot_is : (records : List (Option Rec)) (slot id : ℕ) (place : Option Rec) (me : Rec) (frame : ℕ) (seen : List Rec) (old own out : List ℕ) → IsLookedUp records slot id place me

@@ -18,6 +18,7 @@ mod laws;
 mod reading;
 mod reply_buf;
 mod seen;
+mod seen_ids;
 mod snap_fault;
 mod snapshot;
 mod writing;

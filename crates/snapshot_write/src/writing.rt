@@ -1,13 +1,16 @@
 ghost use Rattle.arena_geo.specs.declared.aabb.TheConstants.{FARTHEST};
-ghost use Rattle.std.specs.Prelude.{◌≡◌, ◌+◌, ◌*◌, ◌≤◌, ◌<◌, ◌++◌, [], length, is_some, IsSome, IfSome};
+ghost use Rattle.std.specs.Prelude.{◌≡◌, ◌+◌, ◌*◌, ◌≤◌, ◌<◌, ◌++◌, [], length, map, is_some, IsSome, IfSome};
 ghost use Rattle.arena_geo.specs.Vectors.{IsNear};
 ghost use Rattle.world_tree.specs.Live.{live_in};
 ghost use Rattle.world_tree.specs.Worlds.{record_of};
 ghost use Rattle.snapshot_write.specs.Snapshots as spec;
 ghost use Rattle.snapshot_write.specs.Shown.{snapshot_shown_to};
 ghost use Rattle.snapshot_write.specs.Reading.{reading};
+ghost use Rattle.snapshot_write.specs.declared.seen.TheConstants.{MOST_SEEN};
+ghost use Rattle.entity_recs.specs.declared.rec.Rec.{Rec};
 
 use crate::reply_buf::{REPLY_ROOM, ReplyBuf};
+use crate::seen_ids::SeenIds;
 use arena_geo::{Aabb, Vec3};
 use entity_recs::{Kind, Rec};
 use world_tree::World;
@@ -119,39 +122,32 @@ fn sees(world: &World, view: &Aabb, me: u16, id: u16) -> bool
     }
 }
 
-/// The record with this id, if it is live, not `me`, and its absolute box touches the view. No other record is read.
-fn seen_at(world: &World, view: &Aabb, me: u16, id: u16) -> Option<Rec>
-    ensures { result ≡ spec.in_view_at view.now me (record_of world.now id) }
+// Their number comes before the first entity, so they are kept, and no box is tested twice.
+/// The ids that the player with the id `me` sees, whose view this is, in rising order.
+fn ids_seen(world: &World, view: &Aabb, me: u16) -> SeenIds
+    requires few { length (spec.in_view view.now me (live_in world.now.records)) ≤ MOST_SEEN }
+    ensures ids { result ≡ map (λ (r : Rec). r.id) (spec.in_view view.now me (live_in world.now.records)) }
 {
-    if sees(world, view, me, id) {
-        world.get(id)
-    } else {
-        None
-    }
-}
-
-/// How many things the player with the id `me` sees, whose view this is.
-fn count_seen(world: &World, view: &Aabb, me: u16) -> u16
-    ensures { result ≡ length (spec.in_view view.now me (live_in world.now.records)) }
-{
-    let mut count = 0;
+    let mut ids = SeenIds::new();
     for id in world.live_ids() {
-        count += u16::from(sees(world, view, me, *id));
+        if sees(world, view, me, *id) {
+            ids.push(*id);
+        }
     }
-    count
+    ids
 }
 
 /// The number of the things that the player with the id `me` sees, whose view this is, and the bytes of each.
 fn push_seen(out: &mut ReplyBuf, world: &World, view: &Aabb, me: u16)
+    requires few { length (spec.in_view view.now me (live_in world.now.records)) ≤ MOST_SEEN }
     requires room { length out.old + 2 + 16 * length (spec.in_view view.now me (live_in world.now.records)) ≤ REPLY_ROOM }
     ensures { out.new ≡ out.old ++ spec.seen_bytes (spec.in_view view.now me (live_in world.now.records)) }
 {
-    let count = count_seen(world, view, me);
-    out.extend(&count.to_le_bytes());
-    for id in world.live_ids() {
-        if let Some(r) = seen_at(world, view, me, *id) {
-            push_entity(out, &r);
-        }
+    let seen = ids_seen(world, view, me);
+    let ids = seen.as_slice();
+    out.extend(&(ids.len() as u16).to_le_bytes());
+    for id in ids {
+        push_entity(out, &world.get(*id).unwrap());
     }
 }
 

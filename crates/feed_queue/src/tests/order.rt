@@ -26,7 +26,7 @@ fn packets_of_one_port_stay_in_order(rt: HostRuntime) -> Result<(), Fail> {
 
 #[test]
 fn place_list_ends_at_512(rt: HostRuntime) -> Result<(), Fail> {
-    let mut places = PlaceList::new();
+    let mut places = PlaceList::new(rt.alloc())?;
     for place in 0..MOST_PLACES {
         assert!(rt; places.push(place as u32));
     }

@@ -1,5 +1,5 @@
 use Rattle.std.proofs.Common.{ℕ, ◌+◌, List, length, ap, ◌∙◌, rules}
-use Rattle.snapshot_write.proofs.Written.{IsLookedUp, at_place, entry_at, seen_is, room_for, snapshot_is}
+use Rattle.snapshot_write.proofs.Written.{IsLookedUp, at_place, entry_at, seen_is, few_in_view, room_for, snapshot_is}
 use Rattle.snapshot_write.specs.Laws.{HasCounts}
 use Rattle.world_tree.specs.Live.{live_in}
 use Rattle.snapshot_write.specs.Snapshots.{in_view}
@@ -27,6 +27,7 @@ push_seen-requires c =
     let seen = in_view c.view-view.result c.from-id.result (live_in records) in
     let is = seen_is records c.args.slot c.from-id.result c.get.result me c.view-view.result up c.get.ensures.linked.entries c.view-view.ensures in
     record {
+      few = few_in_view records c.args.slot c.from-id.result c.get.result me seen up c.get.ensures.linked.places is;
       room = room_for records c.args.slot c.from-id.result c.get.result me seen (length c.push_own.new.out) up c.get.ensures.linked.places is
           (c.push_own.ensures.len ∙ ap (λ (l : List ℕ). length l + 41) c.requires.empty);
     }
