@@ -42,6 +42,18 @@ enough places players frame h = most (places * (frame + 64)) h
     most : (n : ℕ) → 64 * players ≤ n → min players (n / 64) ≡ players
     most n h = omega (arith, h)
 
+most : (places players frame : ℕ) → 64 * joined_by places players frame ≤ places * (frame + 64)
+most places players frame = at (places * (frame + 64))
+  where
+    at : (n : ℕ) → 64 * min players (n / 64) ≤ n
+    at n = omega arith
+
+least : (places players frame n : ℕ) → n ≤ players → 64 * n ≤ places * (frame + 64) → n ≤ joined_by places players frame
+least places players frame n few h = at (places * (frame + 64)) h
+  where
+    at : (k : ℕ) → 64 * n ≤ k → n ≤ min players (k / 64)
+    at k h = omega (arith, h, few)
+
 times-least : (places players frame : ℕ) → players ≤ places → 64 * players ≤ places * (frame + 64)
 times-least places players frame h =
     let e : places * (frame + 64) ≡ places * frame + places * 64 = omega arith in
@@ -129,6 +141,8 @@ joins_are_known = record {
   more = joined-more;
   few = joined-few;
   all = λ places players frame some h. enough places players frame h;
+  most = most;
+  least = least;
   joins = λ players places frame. omega (
     arith,
     length-map-range_with_len join_from (joined_before places players frame + 1) (joined_by places players frame - joined_before places players frame),

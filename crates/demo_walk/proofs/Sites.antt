@@ -3,7 +3,8 @@ use Rattle.std.proofs.Common.{◌≡◌, ℕ, zero, suc, ◌+◌, ◌-◌, ◌�
 use Rattle.std.specs.Prelude.{min}
 use Rattle.std.proofs.lemmas.Bool.Decides.{nat_tests}
 use Rattle.arena_map.specs.Maps.{MapView}
-use Rattle.demo_walk.specs.Places.{is_place, places_among}
+use Rattle.demo_walk.specs.Places.{is_place, places_of}
+use Rattle.demo_walk.proofs.PlaceParts.{passing, passing-more}
 
 -- the number is one of these
 abbrev pub taken : List ℕ → ℕ → Bool
@@ -35,17 +36,24 @@ below-taken (s ∷ sites) n is = by (eqb s n) refl is (λ h. below-taken sites n
     by true e h next = let at : s ≡ n = grind (arith, nat_tests) in omega (arith, at, below-more sites n)
     by false e h next = omega (arith, next h)
 
--- where each place of the first so many spawns is taken, there are no more of them than sites below
-pub places-taken : (m : MapView) (sites : List ℕ) (n : ℕ) → ((q : ℕ) → q < n → is_place m q ≡ true → taken sites q ≡ true)
-    → places_among m n ≤ below sites n
-places-taken m sites zero each = omega arith
-places-taken m sites (suc n) each =
-    by (is_place m n) (places-taken m sites n (λ q less. each q (omega arith))) (λ is. below-taken sites n (each n (omega arith) is))
+-- where each of the first so many numbers that passes is taken, no more pass than sites are below
+passing-taken : (p : ℕ → Bool) (sites : List ℕ) (n : ℕ) → ((q : ℕ) → q < n → p q ≡ true → taken sites q ≡ true)
+    → passing p n ≤ below sites n
+passing-taken p sites zero each = omega arith
+passing-taken p sites (suc n) each =
+    by (p n) (passing-more p n) (passing-taken p sites n (λ q less. each q (omega arith))) (λ is. below-taken sites n (each n (omega arith) is))
   where
-    by : (place : Bool) → places_among m n ≤ below sites n → (place ≡ true → below sites n + 1 ≤ below sites (suc n))
-        → places_among m n + cond place 1 0 ≤ below sites (suc n)
-    by true so next = omega (arith, so, next refl)
-    by false so next = omega (arith, so, below-more sites n)
+    by : (passes : Bool) → passing p (suc n) ≡ passing p n + cond passes 1 0 → passing p n ≤ below sites n
+        → (passes ≡ true → below sites n + 1 ≤ below sites (suc n)) → passing p (suc n) ≤ below sites (suc n)
+    by true more so next = omega (arith, more, so, next refl)
+    by false more so next = omega (arith, more, so, below-more sites n)
+
+passing-few : (p : ℕ → Bool) (sites : List ℕ) (n : ℕ) → ((q : ℕ) → p q ≡ true → taken sites q ≡ true) → passing p n ≤ length sites
+passing-few p sites n each = omega (arith, passing-taken p sites n (λ q less. each q), below-few sites n)
+
+-- where each place is taken, there are no more places than sites
+pub places-taken : (m : MapView) (sites : List ℕ) → ((q : ℕ) → is_place m q ≡ true → taken sites q ≡ true) → places_of m ≤ length sites
+places-taken m sites each = passing-few (is_place m) sites _ each
 
 -- one site more
 pub taken-more : (sites : List ℕ) (i q : ℕ) → taken (sites ++ i ∷ []) q ≡ (taken sites q || eqb i q)
