@@ -1,11 +1,13 @@
 -- What a place is, and how many there are among the first so many spawns.
-use Rattle.std.proofs.Common.{◌≡◌, ℕ, zero, suc, ◌+◌, ◌≤◌, ◌<◌, Bool, true, false, not, ◌&&◌, ◌||◌, cond, List, [], ◌∷◌, ◌++◌, length, get_or, take, Option, Some, None, refl, sym, ap, ◌∙◌, subst, arith, length-append}
-use Rattle.std.specs.Prelude.{filter}
+use Rattle.std.proofs.Common.{◌≡◌, ℕ, zero, suc, ◌+◌, ◌≤◌, ◌<◌, Bool, true, false, not, ◌&&◌, ◌||◌, cond, List, [], ◌∷◌, ◌++◌, length, get_or, take, Option, Some, None, refl, sym, ap, ◌∙◌, arith, length-append}
+use Rattle.std.specs.Prelude.{All, AllPairs, filter}
 use Rattle.std.specs.Option.{option_map_or}
 use Rattle.std.specs.List.{list_any, range_with_len, slice_get}
 use Rattle.std.proofs.lemmas.List.{get_or-take, length-take-le}
 use Rattle.std.proofs.lemmas.List.Folds.{list_any_at, list_any_more}
-use Rattle.std.proofs.lemmas.List.Elements.{filter-append}
+use Rattle.std.proofs.lemmas.List.Elements.{filter-append, filter_passes}
+use Rattle.std.proofs.lemmas.List.FromFn.{length-range_with_len, get_or-range_with_len}
+use Rattle.std.proofs.lemmas.List.Kept.{AllPairs-filter}
 use Rattle.std.proofs.lemmas.Option.{slice_get_within, slice_get-get_or}
 use Rattle.arena_geo.specs.declared.vec3.Vec3.{Vec3}
 use Rattle.arena_geo.specs.Vectors.{zero_vector}
@@ -13,7 +15,7 @@ use Rattle.arena_geo.specs.Bounds.{Bounds}
 use Rattle.arena_geo.specs.Boxes.{overlaps, is_blocked}
 use Rattle.entity_recs.specs.Bodies.{player_body}
 use Rattle.arena_map.specs.Maps.{MapView, solids_of, entities_of}
-use Rattle.demo_walk.specs.Places.{is_by_lift, is_by_spawn, is_open, is_place}
+use Rattle.demo_walk.specs.Places.{is_by_lift, is_by_spawn, is_place, places}
 
 -- the spawn with this number, and the body of a player there
 abbrev pub spawn_of : MapView → ℕ → Vec3
@@ -47,6 +49,17 @@ pub any-more : {X : Type 0} (p : X → Bool) (xs : List X) (i : ℕ) (d : X) →
 any-more p xs i d within =
     list_any_more p xs i d within
     ∙ ap (λ passes. list_any p (take i xs) || passes) (sym (ap (λ o. option_map_or p o false) (slice_get-get_or xs i d within)))
+
+-- where the element at a place is there and passes, the list is that long
+held-at : {X : Type 0} (p : X → Bool) (xs : List X) (i : ℕ) (d : X) → option_map_or p (slice_get xs i) false ≡ true
+    → (i < length xs) × (p (get_or xs i d) ≡ true)
+held-at {X} p xs i d h = by (slice_get xs i) refl h
+  where
+    by : (o : Option X) → slice_get xs i ≡ o → option_map_or p o false ≡ true → (i < length xs) × (p (get_or xs i d) ≡ true)
+    by None e h = cc
+    by (Some x) e h =
+        let within = slice_get_within xs i x e in
+        (within, sym (ap (λ o. option_map_or p o false) (slice_get-get_or xs i d within)) ∙ ap (λ o. option_map_or p o false) e ∙ h)
 
 -- ---- how many pass
 
@@ -89,27 +102,29 @@ pub record IsPlaceAt (m : MapView) (q : ℕ) : Type 0 where
   pub first : (i : ℕ) → i < q → overlaps (body_at m q) (body_at m i) ≡ false
 
 pub place-at : (m : MapView) (q : ℕ) → is_place m q ≡ true → IsPlaceAt m q
-place-at m q is = at (slice_get m.spawns q) refl is
-  where
-    at : (o : Option Vec3) → slice_get m.spawns q ≡ o
-        → option_map_or (λ (p : Vec3). is_open m (player_body p) && not (list_any (is_by_spawn (player_body p)) (take q m.spawns))) o false ≡ true
-        → IsPlaceAt m q
-    at None e h = cc
-    at (Some p) e h =
-        let within = slice_get_within m.spawns q p e in
-        let here : p ≡ spawn_of m q = same p (spawn_of m q) (sym e ∙ slice_get-get_or m.spawns q zero_vector within) in
-        parts within (subst (λ (v : Vec3). (is_open m (player_body v) && not (list_any (is_by_spawn (player_body v)) (take q m.spawns))) ≡ true) here h)
-      where
-        same : (a b : Vec3) → Some a ≡ Some b → a ≡ b
-        same a b h = cc
+place-at m q is =
+    let held = held-at _ m.spawns q zero_vector is in
+    let parts = split-and _ _ held.1 in
+    let ground = split-and _ _ parts.0 in
+    record {
+      within = held.0;
+      open_ = not-true _ ground.0;
+      no_lift = not-true _ ground.1;
+      first = λ i less.
+          none-before (is_by_spawn (body_at m q)) m.spawns _ i zero_vector (not-true _ parts.1) (omega (arith, less, held.0)) (omega (arith, held.0));
+    }
 
-        parts : q < length m.spawns → (is_open m (body_at m q) && not (list_any (is_by_spawn (body_at m q)) (take q m.spawns))) ≡ true → IsPlaceAt m q
-        parts within h =
-            let one = split-and _ _ h in
-            let two = split-and _ _ one.0 in
-            record {
-              within = within;
-              open_ = not-true _ two.0;
-              no_lift = not-true _ two.1;
-              first = λ i less. none-before (is_by_spawn (body_at m q)) m.spawns _ i zero_vector (not-true _ one.1) (omega (arith, less, within)) (omega (arith, within));
-            }
+-- ---- the list of places
+
+range-rising : (a n : ℕ) → AllPairs (λ i j. i < j) (range_with_len a n)
+range-rising a n i j d less within =
+    let count = length-range_with_len a n in
+    omega (arith, less, get_or-range_with_len a n i d (omega (arith, less, within, count)), get_or-range_with_len a n j d (omega (arith, within, count)))
+
+-- the numbers of the places rise
+pub places-rising : (m : MapView) → AllPairs (λ i j. i < j) (places m)
+places-rising m = AllPairs-filter (λ i j. i < j) (is_place m) _ (range-rising 0 _)
+
+-- each is that of a place
+pub places-pass : (m : MapView) → All (λ i. is_place m i ≡ true) (places m)
+places-pass m = filter_passes (is_place m) _

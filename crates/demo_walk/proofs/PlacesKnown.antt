@@ -1,28 +1,23 @@
 -- No place is left out, and each is there once.
-use Rattle.std.proofs.Common.{◌≡◌, ◌≢◌, ℕ, zero, suc, ◌+◌, ◌≤◌, ◌<◌, Bool, true, false, not, ◌&&◌, cond, List, [], ◌∷◌, length, get_or, take, Option, Some, None, refl, sym, ap, ◌∙◌, subst, inl, inr, arith}
-use Rattle.std.specs.Prelude.{ℤ, All, AllPairs, Contains, filter}
-use Rattle.std.specs.Option.{option_map_or}
-use Rattle.std.specs.List.{list_any, range_with_len, slice_get}
+use Rattle.std.proofs.Common.{◌≡◌, ◌≢◌, ℕ, zero, suc, ◌+◌, ◌≤◌, ◌<◌, Bool, true, false, ◌&&◌, cond, List, ◌∷◌, length, get_or, take, Some, refl, sym, ap, ◌∙◌, subst, inl, inr, arith}
+use Rattle.std.specs.Prelude.{Contains, filter}
+use Rattle.std.specs.List.{range_with_len}
 use Rattle.std.proofs.lemmas.Bool.{cases_lt}
 use Rattle.std.proofs.lemmas.List.{get_or-take, length-take-le}
 use Rattle.std.proofs.lemmas.List.Folds.{list_any_none}
-use Rattle.std.proofs.lemmas.List.FromFn.{length-range_with_len, get_or-range_with_len}
-use Rattle.std.proofs.lemmas.List.Kept.{AllPairs-filter}
-use Rattle.std.proofs.lemmas.List.Elements.{filter_passes, All-from_get_or}
+use Rattle.std.proofs.lemmas.List.Elements.{All-weaker, All-from_get_or}
 use Rattle.std.proofs.lemmas.Option.{slice_get_within, slice_get-get_or}
 use Rattle.arena_geo.specs.declared.vec3.Vec3.{Vec3}
 use Rattle.arena_geo.specs.Vectors.{zero_vector}
-use Rattle.arena_geo.specs.Bounds.{Bounds}
 use Rattle.arena_geo.specs.Vectors.{vector}
 use Rattle.arena_geo.specs.Boxes.{overlaps, is_blocked}
 use Rattle.arena_geo.proofs.Overlaps.{overlaps-flips}
-use Rattle.entity_recs.specs.declared.rec.Rec.{Rec}
 use Rattle.entity_recs.specs.Bodies.{player_body, body_of, box_at_origin}
 use Rattle.entity_recs.specs.Kinds.{is_solid}
 use Rattle.arena_map.specs.Maps.{MapView, solids_of, entities_of}
-use Rattle.demo_walk.specs.Places.{share_a_column, is_by_lift, is_by_spawn, is_open, is_place, places, places_of}
+use Rattle.demo_walk.specs.Places.{share_a_column, is_by_lift, is_by_spawn, is_place, places}
 use Rattle.demo_walk.specs.Laws.{IsPlace, PlacesAreKnown}
-use Rattle.demo_walk.proofs.PlaceParts.{spawn_of, body_at, none-passes, passing, passing-more, IsPlaceAt, place-at}
+use Rattle.demo_walk.proofs.PlaceParts.{spawn_of, body_at, none-passes, passing, passing-more, place-at, places-rising, places-pass}
 use Rattle.demo_walk.proofs.Accepted.{apart-column}
 
 -- ---- what a place is, both ways
@@ -35,9 +30,9 @@ place-of m i is =
       spawn = slice_get-get_or m.spawns i zero_vector place.within;
       solids = λ k d less. none-passes (overlaps (body_at m i)) (solids_of m) k d place.open_ less;
       lifts = λ k d less solid. column (is_solid (get_or (entities_of m) k d).kind) (share_a_column (body_at m i) (body_of (get_or (entities_of m) k d))) solid
-      (none-passes (is_by_lift (body_at m i)) (entities_of m) k d place.no_lift less);
+          (none-passes (is_by_lift (body_at m i)) (entities_of m) k d place.no_lift less);
       earlier = λ j other less e. subst (λ (v : Vec3). overlaps (body_at m i) (player_body v) ≡ false)
-      (same (spawn_of m j) other (sym (slice_get-get_or m.spawns j zero_vector (slice_get_within m.spawns j other e)) ∙ e)) (place.first j less);
+          (same (spawn_of m j) other (sym (slice_get-get_or m.spawns j zero_vector (slice_get_within m.spawns j other e)) ∙ e)) (place.first j less);
     }
   where
     same : (a b : Vec3) → Some a ≡ Some b → a ≡ b
@@ -88,11 +83,6 @@ passing-kept p a (suc n) i least most is =
     next true is = later a (filter p (range_with_len (a + 1) n)) i is
     next false is = is
 
-range-rising : (a n : ℕ) → AllPairs (λ i j. i < j) (range_with_len a n)
-range-rising a n i j d less within =
-    let count = length-range_with_len a n in
-    omega (arith, less, get_or-range_with_len a n i d (omega (arith, less, within, count)), get_or-range_with_len a n j d (omega (arith, within, count)))
-
 passing-few : (p : ℕ → Bool) (n : ℕ) → passing p n ≤ n
 passing-few p zero = omega arith
 passing-few p (suc n) = by (p n) (passing-more p n) (passing-few p n)
@@ -114,15 +104,15 @@ passing-all p (suc n) each =
 
 pub places_are_known : PlacesAreKnown
 places_are_known = record {
-  each = λ m k d less. place-of m (get_or (places m) k d) (filter_passes (is_place m) _ k d less);
+  each = λ m. All-weaker (λ i. is_place m i ≡ true) (IsPlace m) (place-of m) (places m) (places-pass m);
   every = λ m i is.
-    let within = slice_get_within m.spawns i is.at is.spawn in
-    passing-kept (is_place m) 0 (length m.spawns) i (omega arith) (omega (arith, within)) (place-back m i is);
-  rising = λ m. AllPairs-filter (λ i j. i < j) (is_place m) _ (range-rising 0 _);
+      let within = slice_get_within m.spawns i is.at is.spawn in
+      passing-kept (is_place m) 0 (length m.spawns) i (omega arith) (omega (arith, within)) (place-back m i is);
+  rising = places-rising;
   count = λ m. refl;
   apart = apart;
   clear = λ m i one k d less solid z. apart-column (player_body one.at) (box_at_origin (vector (get_or (entities_of m) k d).origin.x (get_or (entities_of m) k d).origin.y z) (get_or (entities_of m) k d).mins (get_or (entities_of m) k d).maxs)
-  (one.lifts k d less solid);
+      (one.lifts k d less solid);
   few = λ m. passing-few (is_place m) (length m.spawns);
   all = λ m each. passing-all (is_place m) (length m.spawns) (λ i less. place-back m i (each i less));
 }

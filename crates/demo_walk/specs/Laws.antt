@@ -1,5 +1,5 @@
 -- What holds of all recordings of players that walk on a map.
-use Rattle.std.specs.Prelude.{◌≡◌, ◌≢◌, ℕ, ◌+◌, ◌-◌, ◌*◌, ◌^◌, ◌≤◌, ◌<◌, true, false, ℤ, All, AllPairs, Contains, length, Some, Ok}
+use Rattle.std.specs.Prelude.{◌≡◌, ◌≢◌, ℕ, ◌+◌, ◌-◌, ◌*◌, ◌^◌, ◌≤◌, ◌<◌, true, false, ℤ, All, AllPairs, Contains, [], length, Some, Ok}
 use Rattle.std.specs.List.{slice_get}
 use Rattle.arena_geo.specs.declared.vec3.Vec3.{Vec3}
 use Rattle.arena_geo.specs.Vectors.{vector}
@@ -8,7 +8,7 @@ use Rattle.entity_recs.specs.Bodies.{body_of, box_at_origin, player_body}
 use Rattle.entity_recs.specs.Kinds.{is_solid}
 use Rattle.packet_read.specs.declared.packet.Packet.TheVariants.{Join, Move}
 use Rattle.packet_read.specs.Reading.{reading}
-use Rattle.arena_map.specs.Maps.{MapView, IsMap, solids_of, entities_of}
+use Rattle.arena_map.specs.Maps.{MapView, IsMap, is_ready, solids_of, entities_of}
 use Rattle.demo_lines.specs.Laws.{IsTextOf}
 use Rattle.bot_ways.specs.PlanTexts.{as_written}
 use Rattle.demo_make.specs.Words.{word_at}
@@ -63,7 +63,8 @@ pub record PlacesAreKnown : Type 0 where
 -- who joins when: in frame 0 as many players as there are places, by each later frame no fewer than before, and never
 -- more than there are players; all of them where the frames are enough, and by any frame the most of them, n, with 64 * n
 -- at most places * (frame + 64). Each joins once: a frame has the joins of the ports above those that joined before, up to
--- those that joined by it, and then one move of each that joined
+-- those that joined by it, and then one move of each that joined. On a map with a spawn there are so many frames, each by
+-- the places of the map, and on one without a spawn there is none
 pub record JoinsAreKnown : Type 0 where
   pub first : (places players : ℕ) → players ≤ places → joined_by places players 0 ≡ players
   pub first_few : (places players : ℕ) → places ≤ players → joined_by places players 0 ≡ places
@@ -78,6 +79,11 @@ pub record JoinsAreKnown : Type 0 where
       → joined_before places players frame + length (joins_in players places frame) ≡ joined_by places players frame
   pub moves : (seed players places frame : ℕ)
       → length (moves_in seed players places frame) ≡ joined_by places players frame
+  pub frames : (m : MapView) (seed players frames : ℕ) → is_ready m ≡ true
+      → length (frames_on m seed players frames) ≡ frames
+  pub on_map : (m : MapView) (seed players frames frame : ℕ) → is_ready m ≡ true → frame < frames
+      → slice_get (frames_on m seed players frames) frame ≡ Some (walked_in seed players (places_of m) frame)
+  pub without_spawn : (m : MapView) (seed players frames : ℕ) → is_ready m ≡ false → frames_on m seed players frames ≡ []
 
 -- the packets are read as joins, and as moves with the numbers that the words give
 pub record PacketsAreRead : Type 0 where
