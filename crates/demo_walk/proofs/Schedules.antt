@@ -139,7 +139,7 @@ joined-open places players opened = let one : opened + 1 ≡ suc opened = omega 
 
 module _ (m : MapView) (seed players frames : ℕ) where
   frames-count : is_ready m ≡ true → length (frames_on m seed players frames) ≡ frames
-  frames-count ready = rw ready (length-map-range_with_len (walked_in seed players (places_of m)) 0 frames)
+  frames-count ready = rw ready (length-map-range_with_len _ 0 frames)
 
   frame-at : (frame : ℕ) → is_ready m ≡ true → frame < frames
       → slice_get (frames_on m seed players frames) frame ≡ Some (walked_in seed players (places_of m) frame)

@@ -14,14 +14,14 @@ pub fn enough_places_are_as_made()
     ensures { EnoughPlacesAreAsMade }
 {}
 
-/// The places are exactly the spawns at which a player overlaps no wall, no block and no player at an earlier spawn, nor
-/// any lift, however high that is. No players at two of them overlap.
+/// The places are exactly the spawns at which a player overlaps no wall, no block and no player at an earlier spawn, and
+/// no lift is at it, above it or below it. No players at two of them overlap.
 pub fn places_are_known()
     ensures { PlacesAreKnown }
 {}
 
-/// Where the map has S places, as many players have joined by frame f as there are, or at most S * (f + 64) / 64: in
-/// frame 0 S of them. Each joins once, and moves once in each frame from that of its join on.
+/// Where the map has S places, min(P, S * (f + 64) / 64) of P players have joined by frame f: in frame 0 S of them, or
+/// all. Each joins once, and moves once in each frame from that of its join on.
 pub fn joins_are_known()
     ensures { JoinsAreKnown }
 {}

@@ -103,8 +103,8 @@ fn is_place(map: &ArenaMap, index: usize) -> bool
 }
 
 /// How many places the map has: spawns at which a player overlaps no wall, no block and no player at an earlier spawn,
-/// nor any lift, however high that is. So many players can join at once; maybe more can, since a spawn in a block keeps
-/// later ones that it overlaps from being places.
+/// and no lift is at it, above it or below it. So many players can join at once. Maybe more can: a spawn in a block
+/// keeps later ones from being places, if players there overlap one at it.
 pub fn place_count(map: &ArenaMap) -> u8
     ensures value { result ≡ places_are.places_of map.now }
     ensures few { result ≤ 64 }
