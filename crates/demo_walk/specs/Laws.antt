@@ -1,5 +1,6 @@
 -- What holds of all recordings of players that walk on a map.
-use Rattle.std.specs.Prelude.{◌≡◌, ◌≢◌, ℕ, ◌+◌, ◌-◌, ◌*◌, ◌^◌, ◌≤◌, ◌<◌, true, false, ℤ, All, AllPairs, Contains, [], length, Some, Ok}
+use Rattle.std.specs.Prelude.{◌≡◌, ◌≢◌, ℕ, ◌+◌, ◌-◌, ◌*◌, ◌^◌, ◌≤◌, ◌<◌, ℤ, true, false, [], length, Some, Ok}
+use Rattle.std.specs.Prelude.{All, AllPairs, Contains}
 use Rattle.std.specs.List.{slice_get}
 use Rattle.arena_geo.specs.declared.vec3.Vec3.{Vec3}
 use Rattle.arena_geo.specs.Vectors.{vector}
@@ -31,8 +32,8 @@ EnoughPlacesAreAsMade =
     (seed players places frame : ℕ) → players ≤ places
     → walked_in seed players places frame ≡ arrivals_in seed players frame
 
--- at the spawn with this number a player overlaps no wall, no block and no player at an earlier spawn, and shares no column
--- with a lift
+-- at the spawn with this number a player overlaps no wall, no block and no player at an earlier spawn, and no lift is at
+-- it, above it or below it
 pub record IsPlace (m : MapView) (i : ℕ) : Type 0 where
   pub at : Vec3
   pub spawn : slice_get m.spawns i ≡ Some at
@@ -43,8 +44,8 @@ pub record IsPlace (m : MapView) (i : ℕ) : Type 0 where
   pub earlier : (j : ℕ) (other : Vec3) → j < i → slice_get m.spawns j ≡ Some other
       → overlaps (player_body at) (player_body other) ≡ false
 
--- the places are exactly the spawns of which that holds, each counted once: so no players at two of them overlap, and none
--- overlaps a lift, whatever its height. There are no more places than spawns, and as many where each spawn is one
+-- the places are exactly the spawns of which that holds, each counted once: so no players at two of them overlap, and
+-- none overlaps a lift, however high that is. There are no more places than spawns, and as many where each spawn is one
 pub record PlacesAreKnown : Type 0 where
   pub each : (m : MapView) → All (IsPlace m) (places m)
   pub every : (m : MapView) (i : ℕ) → IsPlace m i → Contains (places m) i
@@ -61,10 +62,10 @@ pub record PlacesAreKnown : Type 0 where
   pub all : (m : MapView) → ((i : ℕ) → i < length m.spawns → IsPlace m i) → places_of m ≡ length m.spawns
 
 -- who joins when: in frame 0 as many players as there are places, by each later frame no fewer than before, and never
--- more than there are players; all of them where the frames are enough, and by any frame the most of them, n, with 64 * n
--- at most places * (frame + 64). Each joins once: a frame has the joins of the ports above those that joined before, up to
--- those that joined by it, and then one move of each that joined. On a map with a spawn there are so many frames, each by
--- the places of the map, and on one without a spawn there is none
+-- more than there are players; all of them where the frames are enough. By any frame it is the greatest number n of them
+-- with 64 * n at most places * (frame + 64). Each joins once: a frame has the joins of the ports above those that joined
+-- before, up to those that joined by it, and then one move of each that joined. On a map with a spawn there are so many
+-- frames, each by the places of the map; on one without a spawn there is none
 pub record JoinsAreKnown : Type 0 where
   pub first : (places players : ℕ) → players ≤ places → joined_by places players 0 ≡ players
   pub first_few : (places players : ℕ) → places ≤ players → joined_by places players 0 ≡ places
@@ -83,7 +84,8 @@ pub record JoinsAreKnown : Type 0 where
       → length (frames_on m seed players frames) ≡ frames
   pub on_map : (m : MapView) (seed players frames frame : ℕ) → is_ready m ≡ true → frame < frames
       → slice_get (frames_on m seed players frames) frame ≡ Some (walked_in seed players (places_of m) frame)
-  pub without_spawn : (m : MapView) (seed players frames : ℕ) → is_ready m ≡ false → frames_on m seed players frames ≡ []
+  pub without_spawn : (m : MapView) (seed players frames : ℕ) → is_ready m ≡ false
+      → frames_on m seed players frames ≡ []
 
 -- the packets are read as joins, and as moves with the numbers that the words give
 pub record PacketsAreRead : Type 0 where

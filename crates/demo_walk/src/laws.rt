@@ -14,8 +14,8 @@ pub fn enough_places_are_as_made()
     ensures { EnoughPlacesAreAsMade }
 {}
 
-/// The places are exactly the spawns at which a player overlaps no wall, no block and no player at an earlier spawn, and
-/// no lift is at it, above it or below it. No players at two of them overlap.
+/// The places are exactly the spawns at which a player overlaps no wall, no block and no player at an earlier spawn,
+/// and no lift is at it, above it or below it. No players at two of them overlap.
 pub fn places_are_known()
     ensures { PlacesAreKnown }
 {}

@@ -46,7 +46,8 @@ fn is_by_lift(body: &Aabb, thing: &Rec) -> bool
 /// Whether the thing at this place among those of the map is such a lift.
 fn is_by_thing(map: &ArenaMap, body: &Aabb, place: usize) -> bool
     requires { place < length (maps.entities_of map.now) }
-    ensures { result ≡ option_map_or (places_are.is_by_lift body.now) (slice_get (maps.entities_of map.now) place) false }
+    ensures { result
+        ≡ option_map_or (places_are.is_by_lift body.now) (slice_get (maps.entities_of map.now) place) false }
 {
     let things = map.entities();
     is_by_lift(body, &things[place])
