@@ -1,10 +1,8 @@
 -- Nothing is refused where there are places.
-use Rattle.std.proofs.Common.{◌≡◌, ℕ, zero, suc, ◌+◌, ◌-◌, ◌^◌, ◌≤◌, ◌<◌, Bool, true, false, ◌&&◌, ◌||◌, List, [], ◌∷◌, ◌++◌, length, map, Option, Some, None, refl, sym, ap, ◌∙◌, subst, inl, inr, arith, length-append, lit<}
+use Rattle.std.proofs.Common.{◌≡◌, ℕ, zero, suc, ◌+◌, ◌-◌, ◌^◌, ◌≤◌, ◌<◌, Bool, true, false, ◌&&◌, List, [], ◌∷◌, ◌++◌, length, map, Option, Some, None, refl, sym, ap, ◌∙◌, subst, inl, inr, arith, length-append, lit<}
 use Rattle.std.specs.Prelude.{◌==◌}
-use Rattle.std.specs.Option.{option_map_or}
 use Rattle.std.specs.List.{find, range_with_len}
 use Rattle.std.proofs.lemmas.Bool.{cases_lt}
-use Rattle.std.proofs.lemmas.Option.{slice_get-get_or}
 use Rattle.arena_geo.specs.Bounds.{Bounds}
 use Rattle.arena_geo.specs.Boxes.{overlaps, overlaps_on}
 use Rattle.entity_recs.specs.declared.limits.TheConstants.{IDS}
@@ -23,27 +21,15 @@ use Rattle.demo_make.specs.Words.{word_at}
 use Rattle.demo_make.specs.GeneratedFrames.{join_from, ports}
 use Rattle.demo_make.specs.Accepting.{ArePlaying, IsPlayed}
 use Rattle.demo_make.proofs.Accepted.{after_arrivals-append}
-use Rattle.demo_walk.specs.Places.{share_a_column, is_by_lift, is_by_thing, meets_lift, is_place, places_of}
+use Rattle.demo_walk.specs.Places.{share_a_column, is_by_lift, is_place, places_of}
 use Rattle.demo_walk.specs.WalkedFrames.{joined_by, joined_before, words_before, joins_in, moves_in, walked_in}
 use Rattle.demo_walk.specs.Accepting.{NothingIsRefused}
 use Rattle.demo_walk.proofs.Schedules.{joined-few, enough-places, first-places}
-use Rattle.demo_walk.proofs.Joining.{body_at, spawn_of, place-at, first-of, AreJoined, joins-next}
+use Rattle.demo_walk.proofs.PlaceParts.{body_at, spawn_of, place-at, none-passes}
+use Rattle.demo_walk.proofs.Joining.{first-of, AreJoined, joins-next}
 use Rattle.demo_walk.proofs.Moving.{sent, AreMoved, moves-played}
 
 -- ---- lifts
-
-no-thing : (m : MapView) (body : Bounds) (n k : ℕ) → meets_lift m body n ≡ false → k < n → is_by_thing m body k ≡ false
-no-thing m body zero k none less = absurd (omega arith)
-no-thing m body (suc n) k none less =
-    let parts = split (meets_lift m body n) (is_by_thing m body n) none in
-    elim (cases_lt k n) [
-      | inl earlier ↦ no-thing m body n k parts.0 earlier
-      | inr later ↦ let here : k ≡ n = omega arith in rw here parts.1
-    ]
-  where
-    split : (a b : Bool) → (a || b) ≡ false → (a ≡ false) × (b ≡ false)
-    split false b h = (refl, h)
-    split true b h = cc
 
 -- what is the same of a thing and its record, wherever it is along z
 record IsAlike (thing r : Rec) : Type 0 where
@@ -60,7 +46,7 @@ alike (Some lift) thing r is = record { kind = is.kind; x = is.x; y = is.y; mins
 column-alike : (body : Bounds) (thing r : Rec) → IsAlike thing r → share_a_column body (body_of r) ≡ share_a_column body (body_of thing)
 column-alike body thing r like = rw like.x (rw like.y (rw like.mins (rw like.maxs refl)))
 
-apart-column : (one other : Bounds) → share_a_column one other ≡ false → overlaps one other ≡ false
+pub apart-column : (one other : Bounds) → share_a_column one other ≡ false → overlaps one other ≡ false
 apart-column one other none =
     by (overlaps_on one.lo.x one.hi.x other.lo.x other.hi.x) (overlaps_on one.lo.y one.hi.y other.lo.y other.hi.y)
     (overlaps_on one.lo.z one.hi.z other.lo.z other.hi.z) none
@@ -93,10 +79,8 @@ solid-apart m records valid nobody_there id r e solid q place = elim (cases_lt i
     at (Some thing) f is =
         let like = alike (lift_of m thing.id) thing r is in
         let first = first-of (λ (thing : Rec). thing.id == id) (entities_of m) nobody thing f in
-        let by_thing : is_by_thing m (body_at m q) first.at ≡ is_by_lift (body_at m q) thing =
-        ap (λ (o : Option Rec). option_map_or (is_by_lift (body_at m q)) o false) (slice_get-get_or (entities_of m) first.at nobody first.within)
-        ∙ ap (is_by_lift (body_at m q)) first.is in
-        let none = sym by_thing ∙ no-thing m (body_at m q) (length (entities_of m)) first.at (place-at m q place).no_lift first.within in
+        let none = sym (ap (is_by_lift (body_at m q)) first.is)
+        ∙ none-passes (is_by_lift (body_at m q)) (entities_of m) first.at nobody (place-at m q place).no_lift first.within in
         let kind : is_solid thing.kind ≡ true = sym (ap is_solid like.kind) ∙ solid in
         apart-column (body_at m q) (body_of r)
         (column-alike (body_at m q) thing r like ∙ column (is_solid thing.kind) (share_a_column (body_at m q) (body_of thing)) kind none)

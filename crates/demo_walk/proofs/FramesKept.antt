@@ -15,8 +15,7 @@ use Rattle.demo_make.specs.Words.{word_at}
 use Rattle.demo_make.specs.GeneratedFrames.{IsInRange, join_from, ports}
 use Rattle.demo_make.proofs.FramesKept.{move-arrival}
 use Rattle.demo_make.proofs.MapKept.{range-all}
-use Rattle.demo_walk.specs.Places.{places_of}
-use Rattle.demo_walk.specs.WalkedFrames.{joined_by, joined_before, joins_in, words_before, move_in, moves_in, walked_in, frames_for, frames_on, walk_text}
+use Rattle.demo_walk.specs.WalkedFrames.{joined_by, joined_before, joins_in, words_before, move_in, moves_in, walked_in, walked_frames, frames_for, frames_on, walk_text}
 use Rattle.demo_walk.specs.Laws.{WalksReadBack}
 use Rattle.demo_walk.proofs.Schedules.{joined-more, joined-few}
 
@@ -81,19 +80,21 @@ frames-ready m frames some = by (is_ready m) some
     by true some = refl
     by false some = absurd (omega (arith, some))
 
+frames-are : (seed players places frames : ℕ) → players ≤ 64 → All IsFrame (walked_frames seed players places frames)
+frames-are seed players places frames few =
+    All-map IsFrame (walked_in seed players places) (range_with_len 0 frames)
+    (range-all (λ f. IsFrame (walked_in seed players places f)) 0 frames (λ f _ _. frame-is seed players places f few))
+
 is-built : (m : MapView) (seed players frames : ℕ) → IsMap m → IsInRange players frames
     → IsBuilt m.bounds (added_lines m) (frames_on m seed players frames)
 is-built m seed players frames is range =
-    let count = length-map-range_with_len (walked_in seed players (places_of m)) 0 (frames_for m frames) in
+    let count : length (frames_on m seed players frames) ≡ frames_for m frames = length-map-range_with_len _ 0 (frames_for m frames) in
     record {
       near = (is.lo, is.hi);
       wide = is.wide;
       accepted = lines-accepted m is;
       few = omega (arith, count, frames-few m frames range.few_frames);
-      each = recursion_from_All IsFrame (frames_on m seed players frames)
-          (All-map IsFrame (walked_in seed players (places_of m)) (range_with_len 0 (frames_for m frames))
-          (range-all (λ f. IsFrame (walked_in seed players (places_of m) f)) 0 (frames_for m frames)
-          (λ f _ _. frame-is seed players (places_of m) f range.few_players)));
+      each = recursion_from_All IsFrame (frames_on m seed players frames) (frames-are seed players _ (frames_for m frames) range.few_players);
       spawn = λ some. ap is_ready (map-again m is) ∙ frames-ready m frames (omega (arith, count, some));
     }
 

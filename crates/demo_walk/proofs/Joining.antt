@@ -1,25 +1,23 @@
 -- Each join of the first frame gets the next slot and a spawn, as long as places are left.
-use Rattle.std.proofs.Common.{◌≡◌, ℕ, zero, suc, ◌+◌, ◌≤◌, ◌<◌, Bool, true, false, eqb, ltb, not, ◌&&◌, ◌||◌, if◌then◌else◌, List, [], ◌∷◌, ◌++◌, length, get_or, Option, Some, None, Ok, refl, sym, ap, ◌∙◌, subst, inl, inr, arith, get_or-set_same, length-set, length-append}
-use Rattle.std.specs.Option.{is_none, option_map_or}
-use Rattle.std.specs.List.{find, position_or_len, slice_set, slice_get}
+use Rattle.std.proofs.Common.{◌≡◌, ℕ, zero, suc, ◌+◌, ◌≤◌, ◌<◌, Bool, true, false, eqb, ltb, not, ◌&&◌, ◌||◌, if◌then◌else◌, List, [], ◌∷◌, ◌++◌, length, get_or, Option, Some, None, Ok, refl, sym, ap, ◌∙◌, inl, inr, arith, get_or-set_same, length-set, length-append}
+use Rattle.std.specs.Option.{is_none}
+use Rattle.std.specs.List.{find, position_or_len, slice_set}
 use Rattle.std.proofs.lemmas.Bool.{cases_lt}
 use Rattle.std.proofs.lemmas.Bool.Decides.{nat_tests}
 use Rattle.std.proofs.lemmas.List.{length-map}
 use Rattle.std.proofs.lemmas.List.Folds.{list_any_none}
 use Rattle.std.proofs.lemmas.List.Elements.{All-from_get_or}
 use Rattle.std.proofs.lemmas.List.Sums.{position_or_len_is}
-use Rattle.std.proofs.lemmas.Option.{slice_get_within, slice_get-get_or}
 use Rattle.arena_geo.specs.declared.vec3.Vec3.{Vec3}
 use Rattle.arena_geo.specs.Vectors.{zero_vector}
-use Rattle.arena_geo.specs.Bounds.{Bounds}
-use Rattle.arena_geo.specs.Boxes.{overlaps, is_blocked}
+use Rattle.arena_geo.specs.Boxes.{overlaps}
 use Rattle.entity_recs.specs.declared.limits.TheConstants.{IDS}
 use Rattle.entity_recs.specs.declared.rec.Rec.{Rec}
 use Rattle.entity_recs.specs.Bodies.{body_of, player_body}
 use Rattle.entity_recs.specs.Kinds.{is_solid}
 use Rattle.entity_slots.specs.Ports.{has_port, port_at, is_joined}
 use Rattle.entity_slots.specs.FreeSlots.{free_slot, slot_for}
-use Rattle.arena_map.specs.Maps.{MapView, solids_of, entities_of}
+use Rattle.arena_map.specs.Maps.{MapView, solids_of}
 use Rattle.world_tree.specs.Live.{record_at}
 use Rattle.world_tree.specs.Queries.{is_free}
 use Rattle.world_tree.specs.Walks.{is_in_the_way}
@@ -28,71 +26,9 @@ use Rattle.client_ports.specs.Clients.{client, client_at, port_of, ports_of, new
 use Rattle.client_ports.specs.States.{State, newcomer, with_newcomer}
 use Rattle.client_ports.specs.FirstRefusals.{join_point, free_spawn, join_answer}
 use Rattle.client_ports.proofs.Slots.{port_at-client, read-set}
-use Rattle.demo_walk.specs.Places.{meets_lift, meets_spawn, is_by_spawn, is_apart, is_place, places_of}
-use Rattle.demo_walk.proofs.Sites.{taken, below-few, places-taken, taken-more}
-
--- the spawn with this number, and the body of a player there
-abbrev pub spawn_of : MapView → ℕ → Vec3
-spawn_of m i = get_or m.spawns i zero_vector
-
-abbrev pub body_at : MapView → ℕ → Bounds
-body_at m i = player_body (spawn_of m i)
-
--- ---- the parts of a place
-
-split-and : (a b : Bool) → (a && b) ≡ true → (a ≡ true) × (b ≡ true)
-split-and true b h = (refl, h)
-split-and false b h = cc
-
-not-true : (b : Bool) → not b ≡ true → b ≡ false
-not-true false h = refl
-not-true true h = cc
-
--- what a place is, at its spawn
-pub record IsPlaceAt (m : MapView) (q : ℕ) : Type 0 where
-  pub within : q < length m.spawns
-  pub open_ : is_blocked (body_at m q) (solids_of m) ≡ false
-  pub no_lift : meets_lift m (body_at m q) (length (entities_of m)) ≡ false
-  pub first : meets_spawn m (body_at m q) q ≡ false
-
-pub place-at : (m : MapView) (q : ℕ) → is_place m q ≡ true → IsPlaceAt m q
-place-at m q is = at (slice_get m.spawns q) refl is
-  where
-    same : (a b : Vec3) → Some a ≡ Some b → a ≡ b
-    same a b h = cc
-
-    at : (o : Option Vec3) → slice_get m.spawns q ≡ o → option_map_or (λ (p : Vec3). is_apart m (player_body p) q) o false ≡ true → IsPlaceAt m q
-    at None e h = cc
-    at (Some p) e h =
-        let within = slice_get_within m.spawns q p e in
-        let here : p ≡ spawn_of m q = same p (spawn_of m q) (sym e ∙ slice_get-get_or m.spawns q zero_vector within) in
-        let apart : is_apart m (body_at m q) q ≡ true = subst (λ (v : Vec3). is_apart m (player_body v) q ≡ true) here h in
-        let one = split-and (not (is_blocked (body_at m q) (solids_of m)) && not (meets_lift m (body_at m q) (length (entities_of m)))) (not (meets_spawn m (body_at m q) q)) apart in
-        let two = split-and (not (is_blocked (body_at m q) (solids_of m))) (not (meets_lift m (body_at m q) (length (entities_of m)))) one.0 in
-        record {
-          within = within;
-          open_ = not-true (is_blocked (body_at m q) (solids_of m)) two.0;
-          no_lift = not-true (meets_lift m (body_at m q) (length (entities_of m))) two.1;
-          first = not-true (meets_spawn m (body_at m q) q) one.1;
-        }
-
--- a body that meets none of the first so many spawns is apart from each
-spawn-apart : (m : MapView) (body : Bounds) (n i : ℕ) → meets_spawn m body n ≡ false → i < n → i < length m.spawns → overlaps body (body_at m i) ≡ false
-spawn-apart m body zero i none less within = absurd (omega arith)
-spawn-apart m body (suc n) i none less within =
-    let parts = split-or (meets_spawn m body n) (is_by_spawn m body n) none in
-    elim (cases_lt i n) [
-      | inl earlier ↦ spawn-apart m body n i parts.0 earlier within
-      | inr later ↦ let here : i ≡ n = omega arith in
-          let at : is_by_spawn m body n ≡ overlaps body (body_at m n) =
-          ap (λ (o : Option Vec3). option_map_or (λ (p : Vec3). overlaps body (player_body p)) o false)
-          (slice_get-get_or m.spawns n zero_vector (subst (λ j. j < length m.spawns) here within)) in
-          rw here (sym at ∙ parts.1)
-    ]
-  where
-    split-or : (a b : Bool) → (a || b) ≡ false → (a ≡ false) × (b ≡ false)
-    split-or false b h = (refl, h)
-    split-or true b h = cc
+use Rattle.demo_walk.specs.Places.{is_place, places_of}
+use Rattle.demo_walk.proofs.PlaceParts.{spawn_of, body_at, place-at}
+use Rattle.demo_walk.proofs.Sites.{taken, places-taken, taken-more}
 
 -- ---- finding
 
@@ -237,14 +173,13 @@ module _ (m : MapView) (sites : List ℕ) (state : State) (are : AreJoined m sit
           let first = first-of (λ (v : Vec3). is_free state.records (player_body v) (solids_of m) (length sites)) m.spawns zero_vector at e in
           record { site = first.at; found = e ∙ ap (λ (v : Vec3). Some v) (sym first.is); within = first.within; before = first.before }
       by None e =
-          let all = places-taken m sites (length m.spawns) (λ q less place. each q less place (taken sites q) refl) in
-          absurd (omega (arith, all, below-few sites (length m.spawns), places))
+          absurd (omega (arith, places-taken m sites (λ q place. each q place (taken sites q) refl), places))
         where
-          each : (q : ℕ) → q < length m.spawns → is_place m q ≡ true → (t : Bool) → taken sites q ≡ t → taken sites q ≡ true
-          each q less place true is = is
-          each q less place false is =
+          each : (q : ℕ) → is_place m q ≡ true → (t : Bool) → taken sites q ≡ t → taken sites q ≡ true
+          each q place true is = is
+          each q place false is =
               absurd (never (sym (open-place few q place is)
-              ∙ none-of (λ (v : Vec3). is_free state.records (player_body v) (solids_of m) (length sites)) m.spawns zero_vector e q less))
+              ∙ none-of (λ (v : Vec3). is_free state.records (player_body v) (solids_of m) (length sites)) m.spawns zero_vector e q (place-at m q place).within))
 
 -- ---- a join
 
@@ -337,7 +272,7 @@ joins-next m sites state are few places =
         → ((j : ℕ) → j < i → is_free state.records (body_at m j) (solids_of m) (length sites) ≡ false)
         → overlaps (body_at m q) (body_at m i) ≡ false
     new-apart i q place not_taken differ within before = elim (cases_lt i q) [
-      | inl less ↦ spawn-apart m (body_at m q) q i (place-at m q place).first less within
+      | inl less ↦ (place-at m q place).first i less
       | inr above ↦ elim (cases_lt q i) [
         | inl earlier ↦ absurd (never (sym (open-place m sites state are few q place not_taken) ∙ before q earlier))
         | inr not_earlier ↦ absurd (other (omega arith))

@@ -1,14 +1,17 @@
 -- Who joins when, and which word is drawn for a move.
-use Rattle.std.proofs.Common.{◌≡◌, ℕ, zero, suc, ◌+◌, ◌-◌, ◌*◌, ◌/◌, ◌≤◌, ◌<◌, refl, sym, ap, ◌∙◌, arith, ◌++◌, map}
+use Rattle.std.proofs.Common.{◌≡◌, ℕ, zero, suc, ◌+◌, ◌-◌, ◌*◌, ◌/◌, ◌≤◌, ◌<◌, true, false, [], length, Some, refl, sym, ap, ◌∙◌, arith, ◌++◌, map}
 use Rattle.std.specs.Prelude.{min}
-use Rattle.std.specs.List.{range_with_len}
-use Rattle.std.proofs.lemmas.List.FromFn.{length-map-range_with_len}
+use Rattle.std.specs.List.{range_with_len, slice_get}
+use Rattle.std.proofs.lemmas.List.FromFn.{length-map-range_with_len, get_or-map-range_with_len}
+use Rattle.std.proofs.lemmas.Option.{slice_get-get_or}
+use Rattle.arena_map.specs.Maps.{MapView, is_ready}
 use Rattle.demo_make.specs.Words.{word_of, next_state, state_after, word_at}
 use Rattle.demo_make.specs.GeneratedFrames.{join_from, move_from, ports}
 use Rattle.demo_make.specs.GeneratedFrames as made
 use Rattle.demo_make.proofs.Drawing.{next_state-after}
 use Rattle.demo_make.proofs.FramesKept.{move-read, join-read, no-joins}
-use Rattle.demo_walk.specs.WalkedFrames.{joined_by, joined_before, joins_in, words_before, move_in, moves_in}
+use Rattle.demo_walk.specs.Places.{places_of}
+use Rattle.demo_walk.specs.WalkedFrames.{joined_by, joined_before, joins_in, words_before, move_in, moves_in, walked_in, frames_on}
 use Rattle.demo_walk.specs.Laws.{EnoughPlacesAreAsMade, JoinsAreKnown, PacketsAreRead}
 
 -- ---- how many have joined
@@ -41,6 +44,18 @@ enough places players frame h = most (places * (frame + 64)) h
   where
     most : (n : ℕ) → 64 * players ≤ n → min players (n / 64) ≡ players
     most n h = omega (arith, h)
+
+most : (places players frame : ℕ) → 64 * joined_by places players frame ≤ places * (frame + 64)
+most places players frame = at (places * (frame + 64))
+  where
+    at : (n : ℕ) → 64 * min players (n / 64) ≤ n
+    at n = omega arith
+
+least : (places players frame n : ℕ) → n ≤ players → 64 * n ≤ places * (frame + 64) → n ≤ joined_by places players frame
+least places players frame n few h = at (places * (frame + 64)) h
+  where
+    at : (k : ℕ) → 64 * n ≤ k → n ≤ min players (k / 64)
+    at k h = omega (arith, h, few)
 
 times-least : (places players frame : ℕ) → players ≤ places → 64 * players ≤ places * (frame + 64)
 times-least places players frame h =
@@ -120,6 +135,24 @@ words-open seed places players opened =
 pub joined-open : (places players opened : ℕ) → joined_before places players (opened + 1) ≡ joined_by places players opened
 joined-open places players opened = let one : opened + 1 ≡ suc opened = omega arith in rw one refl
 
+-- ---- the frames on a map
+
+module _ (m : MapView) (seed players frames : ℕ) where
+  frames-count : is_ready m ≡ true → length (frames_on m seed players frames) ≡ frames
+  frames-count ready = rw ready (length-map-range_with_len _ 0 frames)
+
+  frame-at : (frame : ℕ) → is_ready m ≡ true → frame < frames
+      → slice_get (frames_on m seed players frames) frame ≡ Some (walked_in seed players (places_of m) frame)
+  frame-at frame ready less =
+      let walked = walked_in seed players (places_of m) in
+      let same : 0 + frame ≡ frame = omega arith in
+      let count = length-map-range_with_len walked 0 frames in
+      rw ready (slice_get-get_or (map walked (range_with_len 0 frames)) frame [] (omega (arith, count, less))
+      ∙ ap (λ arrivals. Some arrivals) (get_or-map-range_with_len walked 0 frames frame frame [] less same))
+
+  no-frames : is_ready m ≡ false → frames_on m seed players frames ≡ []
+  no-frames none = rw none refl
+
 -- ---- laws
 
 pub joins_are_known : JoinsAreKnown
@@ -129,12 +162,17 @@ joins_are_known = record {
   more = joined-more;
   few = joined-few;
   all = λ places players frame some h. enough places players frame h;
+  most = most;
+  least = least;
   joins = λ players places frame. omega (
     arith,
     length-map-range_with_len join_from (joined_before places players frame + 1) (joined_by places players frame - joined_before places players frame),
     joined-more places players frame,
   );
   moves = λ seed players places frame. length-map-range_with_len (move_in seed players places frame) 1 (joined_by places players frame);
+  frames = frames-count;
+  on_map = λ m seed players frames frame ready less. frame-at m seed players frames frame ready less;
+  without_spawn = no-frames;
 }
 
 pub packets_are_read : PacketsAreRead

@@ -1,9 +1,11 @@
 -- Which places are taken: there are no more of them than players.
-use Rattle.std.proofs.Common.{◌≡◌, ℕ, zero, suc, ◌+◌, ◌-◌, ◌≤◌, ◌<◌, Bool, true, false, ◌||◌, cond, eqb, List, [], ◌∷◌, ◌++◌, length, refl, arith}
-use Rattle.std.specs.Prelude.{min}
+use Rattle.std.proofs.Common.{◌≡◌, ℕ, suc, ◌+◌, ◌-◌, ◌≤◌, ◌<◌, Bool, true, false, ◌||◌, eqb, List, [], ◌∷◌, ◌++◌, length, refl, arith}
+use Rattle.std.specs.Prelude.{min, All, AllPairs}
+use Rattle.std.proofs.lemmas.List.Elements.{All-head, All-tail, All-weaker}
 use Rattle.std.proofs.lemmas.Bool.Decides.{nat_tests}
 use Rattle.arena_map.specs.Maps.{MapView}
-use Rattle.demo_walk.specs.Places.{is_place, places_among}
+use Rattle.demo_walk.specs.Places.{is_place, places, places_of}
+use Rattle.demo_walk.proofs.PlaceParts.{places-rising, places-pass}
 
 -- the number is one of these
 abbrev pub taken : List ℕ → ℕ → Bool
@@ -35,17 +37,27 @@ below-taken (s ∷ sites) n is = by (eqb s n) refl is (λ h. below-taken sites n
     by true e h next = let at : s ≡ n = grind (arith, nat_tests) in omega (arith, at, below-more sites n)
     by false e h next = omega (arith, next h)
 
--- where each place of the first so many spawns is taken, there are no more of them than sites below
-pub places-taken : (m : MapView) (sites : List ℕ) (n : ℕ) → ((q : ℕ) → q < n → is_place m q ≡ true → taken sites q ≡ true)
-    → places_among m n ≤ below sites n
-places-taken m sites zero each = omega arith
-places-taken m sites (suc n) each =
-    by (is_place m n) (places-taken m sites n (λ q less. each q (omega arith))) (λ is. below-taken sites n (each n (omega arith) is))
-  where
-    by : (place : Bool) → places_among m n ≤ below sites n → (place ≡ true → below sites n + 1 ≤ below sites (suc n))
-        → places_among m n + cond place 1 0 ≤ below sites (suc n)
-    by true so next = omega (arith, so, next refl)
-    by false so next = omega (arith, so, below-more sites n)
+below-rises : (sites : List ℕ) (low n : ℕ) → low ≤ n → below sites low ≤ below sites n
+below-rises [] low n h = omega arith
+below-rises (s ∷ sites) low n h = omega (arith, h, below-rises sites low n h)
+
+-- rising numbers from low on that are all taken are no more than the sites from low on
+taken-few : (sites ps : List ℕ) (low : ℕ) → AllPairs (λ i j. i < j) ps → All (λ q. low ≤ q) ps → All (λ q. taken sites q ≡ true) ps
+    → length ps + below sites low ≤ length sites
+taken-few sites [] low rising least each = omega (arith, below-few sites low)
+taken-few sites (q ∷ ps) low rising least each =
+    let rest = taken-few sites ps (suc q) (λ i j d less within. rising (suc i) (suc j) d (omega (arith, less)) (omega (arith, within)))
+    (λ j d within. rising 0 (suc j) d (omega arith) (omega (arith, within)))
+    (All-tail (λ q. taken sites q ≡ true) q ps each) in
+    let from : low ≤ q = All-head (λ q. low ≤ q) q ps least in
+    omega (arith, rest, below-rises sites low q from, below-taken sites q (All-head (λ q. taken sites q ≡ true) q ps each))
+
+-- where each place is taken, there are no more places than sites
+pub places-taken : (m : MapView) (sites : List ℕ) → ((q : ℕ) → is_place m q ≡ true → taken sites q ≡ true) → places_of m ≤ length sites
+places-taken m sites each =
+    let few = taken-few sites (places m) 0 (places-rising m) (λ j d within. omega arith)
+    (All-weaker (λ q. is_place m q ≡ true) (λ q. taken sites q ≡ true) each (places m) (places-pass m)) in
+    omega (arith, few)
 
 -- one site more
 pub taken-more : (sites : List ℕ) (i q : ℕ) → taken (sites ++ i ∷ []) q ≡ (taken sites q || eqb i q)

@@ -1,6 +1,6 @@
--- The places of a map: the spawns at which so many players can join at once.
-use Rattle.std.specs.Prelude.{ℕ, zero, suc, ◌+◌, Bool, false, not, ◌&&◌, ◌||◌, length, cond}
-use Rattle.std.specs.List.{slice_get}
+-- The places of a map: spawns at which players can join at the same time, wherever its lifts are.
+use Rattle.std.specs.Prelude.{ℕ, Bool, false, not, ◌&&◌, List, length, filter, take}
+use Rattle.std.specs.List.{list_any, range_with_len, slice_get}
 use Rattle.std.specs.Option.{option_map_or}
 use Rattle.arena_geo.specs.declared.vec3.Vec3.{Vec3}
 use Rattle.arena_geo.specs.Bounds.{Bounds}
@@ -19,40 +19,26 @@ share_a_column one other =
 abbrev pub is_by_lift : Bounds → Rec → Bool
 is_by_lift body thing = is_solid thing.kind && share_a_column body (body_of thing)
 
--- the thing with this number is, counted from 0
-abbrev pub is_by_thing : MapView → Bounds → ℕ → Bool
-is_by_thing m body k = option_map_or (is_by_lift body) (slice_get (entities_of m) k) false
+-- no wall or block overlaps the body, and no lift is at it, above it or below it
+abbrev pub is_open : MapView → Bounds → Bool
+is_open m body = not (is_blocked body (solids_of m)) && not (list_any (is_by_lift body) (entities_of m))
 
--- one of the first so many things is
-abbrev pub meets_lift : MapView → Bounds → ℕ → Bool
-meets_lift m body zero = false
-meets_lift m body (suc k) = meets_lift m body k || is_by_thing m body k
+-- a player at this spawn overlaps the body
+abbrev pub is_by_spawn : Bounds → Vec3 → Bool
+is_by_spawn body at = overlaps body (player_body at)
 
--- a player at the spawn with this number overlaps the body
-abbrev pub is_by_spawn : MapView → Bounds → ℕ → Bool
-is_by_spawn m body k = option_map_or (λ (at : Vec3). overlaps body (player_body at)) (slice_get m.spawns k) false
-
--- one at one of the first so many spawns does
-abbrev pub meets_spawn : MapView → Bounds → ℕ → Bool
-meets_spawn m body zero = false
-meets_spawn m body (suc k) = meets_spawn m body k || is_by_spawn m body k
-
--- a body is free of walls, blocks and lifts, and of players at the first so many spawns
-abbrev pub is_apart : MapView → Bounds → ℕ → Bool
-is_apart m body earlier =
-    not (is_blocked body (solids_of m))
-    && not (meets_lift m body (length (entities_of m)))
-    && not (meets_spawn m body earlier)
-
--- the spawn with this number is a place: so is the body of a player there, of all earlier spawns
+-- the spawn with this number is a place: a player there is in the open, and overlaps none at an earlier spawn
 abbrev pub is_place : MapView → ℕ → Bool
-is_place m i = option_map_or (λ (at : Vec3). is_apart m (player_body at) i) (slice_get m.spawns i) false
+is_place m i =
+    option_map_or
+    (λ (at : Vec3). is_open m (player_body at) && not (list_any (is_by_spawn (player_body at)) (take i m.spawns)))
+    (slice_get m.spawns i)
+    false
 
--- how many of the first so many spawns are places
-abbrev pub places_among : MapView → ℕ → ℕ
-places_among m zero = 0
-places_among m (suc i) = places_among m i + cond (is_place m i) 1 0
+-- the numbers of the places among the spawns
+abbrev pub places : MapView → List ℕ
+places m = filter (is_place m) (range_with_len 0 (length m.spawns))
 
 -- how many places there are
 abbrev pub places_of : MapView → ℕ
-places_of m = places_among m (length m.spawns)
+places_of m = length (places m)

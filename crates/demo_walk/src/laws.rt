@@ -1,5 +1,6 @@
 ghost use Rattle.demo_walk.specs.Accepting.{NothingIsRefused};
-ghost use Rattle.demo_walk.specs.Laws.{WalksReadBack, EnoughPlacesAreAsMade, JoinsAreKnown, PacketsAreRead};
+ghost use Rattle.demo_walk.specs.Laws.{WalksReadBack, EnoughPlacesAreAsMade, PlacesAreKnown, JoinsAreKnown};
+ghost use Rattle.demo_walk.specs.Laws.{PacketsAreRead};
 
 /// Each recording, of 1 to 64 players and 1 to 100,000 frames, has no fault, and is read as its map and the frames that
 /// it is made of.
@@ -13,8 +14,14 @@ pub fn enough_places_are_as_made()
     ensures { EnoughPlacesAreAsMade }
 {}
 
-/// In frame 0 as many players join as the map has places, in later frames the others, each once; and each moves once in
-/// each frame from that of its join on.
+/// The places are exactly the spawns at which a player overlaps no wall, no block and no player at an earlier spawn,
+/// and no lift is at it, above it or below it. No players at two of them overlap.
+pub fn places_are_known()
+    ensures { PlacesAreKnown }
+{}
+
+/// Where the map has S places, min(P, S * (f + 64) / 64) of P players have joined by frame f: in frame 0 S of them, or
+/// all. Each joins once, and moves once in each frame from that of its join on.
 pub fn joins_are_known()
     ensures { JoinsAreKnown }
 {}

@@ -3,7 +3,7 @@
 
 pub use laws::{
     enough_places_are_as_made, joins_are_known, nothing_is_refused, packets_are_read,
-    walks_read_back,
+    places_are_known, walks_read_back,
 };
 pub use places::place_count;
 pub use walk::Walk;

@@ -1,4 +1,6 @@
-ghost use Rattle.std.specs.Prelude.{◌≡◌, ◌<◌, ◌≤◌, length, slice_get, Some};
+ghost use Rattle.std.specs.Prelude.{◌≡◌, ◌<◌, ◌≤◌, false, length, slice_get, take, Some};
+ghost use Rattle.std.specs.List.{list_any};
+ghost use Rattle.std.specs.Option.{option_map_or};
 ghost use Rattle.arena_geo.specs.declared.aabb.TheConstants.{FARTHEST};
 ghost use Rattle.arena_geo.specs.Bounds.{bounds};
 ghost use Rattle.arena_geo.specs.Boxes as boxes;
@@ -44,7 +46,8 @@ fn is_by_lift(body: &Aabb, thing: &Rec) -> bool
 /// Whether the thing at this place among those of the map is such a lift.
 fn is_by_thing(map: &ArenaMap, body: &Aabb, place: usize) -> bool
     requires { place < length (maps.entities_of map.now) }
-    ensures { result ≡ places_are.is_by_thing map.now body.now place }
+    ensures { result
+        ≡ option_map_or (places_are.is_by_lift body.now) (slice_get (maps.entities_of map.now) place) false }
 {
     let things = map.entities();
     is_by_lift(body, &things[place])
@@ -52,7 +55,7 @@ fn is_by_thing(map: &ArenaMap, body: &Aabb, place: usize) -> bool
 
 /// Whether some lift is at the body, or above or below it.
 fn meets_lift(map: &ArenaMap, body: &Aabb) -> bool
-    ensures { result ≡ places_are.meets_lift map.now body.now (length (maps.entities_of map.now)) }
+    ensures { result ≡ list_any (places_are.is_by_lift body.now) (maps.entities_of map.now) }
 {
     let mut meets = false;
     for place in 0..map.entities().len() {
@@ -73,7 +76,7 @@ fn spawn(map: &ArenaMap, index: usize) -> Vec3
 /// Whether a player at this spawn overlaps the body.
 fn is_by_spawn(map: &ArenaMap, body: &Aabb, index: usize) -> bool
     requires { index < length map.now.spawns }
-    ensures { result ≡ places_are.is_by_spawn map.now body.now index }
+    ensures { result ≡ option_map_or (places_are.is_by_spawn body.now) (slice_get map.now.spawns index) false }
 {
     body.overlaps(&player_box(spawn(map, index)))
 }
@@ -81,7 +84,7 @@ fn is_by_spawn(map: &ArenaMap, body: &Aabb, index: usize) -> bool
 /// Whether a player at one of the first so many spawns overlaps the body.
 fn meets_spawn(map: &ArenaMap, body: &Aabb, earlier: usize) -> bool
     requires { earlier ≤ length map.now.spawns }
-    ensures { result ≡ places_are.meets_spawn map.now body.now earlier }
+    ensures { result ≡ list_any (places_are.is_by_spawn body.now) (take earlier map.now.spawns) }
 {
     let mut meets = false;
     for index in 0..earlier {
@@ -91,7 +94,7 @@ fn meets_spawn(map: &ArenaMap, body: &Aabb, earlier: usize) -> bool
 }
 
 /// Whether this spawn is a place: a player there overlaps no wall, no block and no player at an earlier spawn, and no
-/// lift is above or below it.
+/// lift is at it, above it or below it.
 fn is_place(map: &ArenaMap, index: usize) -> bool
     requires { index < length map.now.spawns }
     ensures { result ≡ places_are.is_place map.now index }
@@ -100,7 +103,9 @@ fn is_place(map: &ArenaMap, index: usize) -> bool
     !body.is_blocked(map.solids()) && !meets_lift(map, &body) && !meets_spawn(map, &body, index)
 }
 
-/// How many players can join the map at once, wherever its lifts are.
+/// How many places the map has: spawns at which a player overlaps no wall, no block and no player at an earlier spawn,
+/// and no lift is at it, above it or below it. So many players can join at once. Maybe more can: a spawn in a block
+/// keeps later ones from being places, if players there overlap one at it.
 pub fn place_count(map: &ArenaMap) -> u8
     ensures value { result ≡ places_are.places_of map.now }
     ensures few { result ≤ 64 }
