@@ -40,8 +40,8 @@ pub(crate) fn note_refused(refusals: &mut Refusals, held: &Held, node: u8, found
 const LOOKS: u8 = 100;
 
 impl<'a, A: Action> SharedWords<'a, A> {
-    /// Waits until the word of a node that was held is 0, or for a while. To look is no step, and leaves the word in the
-    /// holder's cache.
+    /// Waits until the word of a node that was held is 0, or for a while. To look is no step, and writes nothing, so it
+    /// hinders the holder less than a take that is refused.
     pub(crate) fn wait_for(&self, node: u8) {
         for _ in 0..LOOKS {
             if self.table.shared.peek(usize::from(node_word(node))) == 0 {
