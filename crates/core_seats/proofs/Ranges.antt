@@ -3,7 +3,6 @@ use Rattle.std.proofs.Common.{◌≡◌, ℕ, zero, suc, ◌+◌, Bool, true, fa
 use Rattle.std.specs.Prelude.{filter}
 use Rattle.std.specs.List.{range_with_len}
 use Rattle.std.proofs.lemmas.List.{map-append}
-use Rattle.areanode.specs.Trees.{leaf_node}
 use Rattle.std.proofs.lemmas.List.Elements.{filter-append}
 use Rattle.std.proofs.lemmas.Bool.{cond-true, cond-false}
 
@@ -30,7 +29,7 @@ kept_same test n fails =
     ∙ ap (λ (xs : List ℕ). filter test (range_with_len 0 n) ++ xs) (cond-false (test n) (n ∷ []) [] fails)
     ∙ append-nil (filter test (range_with_len 0 n))
 
-pub mapped_more : (depth : ℕ) (test : ℕ → Bool) (n : ℕ) → test n ≡ true
-    → map (leaf_node depth) (filter test (range_with_len 0 (n + 1))) ≡ map (leaf_node depth) (filter test (range_with_len 0 n)) ++ leaf_node depth n ∷ []
-mapped_more depth test n passes =
-    ap (map (leaf_node depth)) (kept_more test n passes) ∙ map-append (leaf_node depth) (filter test (range_with_len 0 n)) (n ∷ [])
+pub mapped_more : (f : ℕ → ℕ) (test : ℕ → Bool) (n : ℕ) → test n ≡ true
+    → map f (filter test (range_with_len 0 (n + 1))) ≡ map f (filter test (range_with_len 0 n)) ++ f n ∷ []
+mapped_more f test n passes =
+    ap (map f) (kept_more test n passes) ∙ map-append f (filter test (range_with_len 0 n)) (n ∷ [])

@@ -269,9 +269,9 @@ few_high meaning rules validity start =
     omega (arith, few, sized, same)
 
 -- the things at the start, where the records of players are left out
-pub are_things : {A : Type 0} (meaning : A → Meaning) (rules : RulesView A) (bits first : ℕ) (index : StripsView) → HasValidity (fixed_of meaning rules).takes (fixed_of meaning rules).effect_of
-    → IsRuledWith (fixed_of meaning rules) rules.start bits first index → AreThings (fixed_of meaning rules) (drop first rules.start)
-are_things meaning rules bits first index validity ruled =
+pub are_things : {A : Type 0} (meaning : A → Meaning) (rules : RulesView A) (leaf bits first : ℕ) (index : StripsView) → HasValidity (fixed_of meaning rules).takes (fixed_of meaning rules).effect_of
+    → IsRuledWith (fixed_of meaning rules) rules.start leaf bits first index → AreThings (fixed_of meaning rules) (drop first rules.start)
+are_things meaning rules leaf bits first index validity ruled =
     let F = fixed_of meaning rules in
     subst (AreThings F) (sym ruled.things) (record {
       ids = high_ids rules.start;

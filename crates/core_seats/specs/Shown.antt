@@ -2,10 +2,11 @@
 use Rattle.std.specs.Prelude.{◌≡◌, ◌<◌, ◌≤◌, ℕ, nat_le, List, length, drop, filter, map}
 use Rattle.areanode.specs.Words.{has_bit}
 use Rattle.areanode.specs.Trees.{TreeView, IsTreeDepth}
+use Rattle.areanode.specs.declared.sizes.TheConstants.{MOST_LEAVES}
 use Rattle.entity_recs.specs.declared.rec.Rec.{Rec}
 use Rattle.entity_recs.specs.Worlds.{world_of}
 use Rattle.entity_recs.specs.Actions.{Meaning}
-use Rattle.core_steps.specs.Nodes.{Fixed, has}
+use Rattle.core_steps.specs.Nodes.{Fixed, has, inner_nodes}
 use Rattle.core_steps.specs.Stands.{IsStart}
 use Rattle.box_strips.specs.Strips.{StripsView, IsIndexOf}
 use Rattle.entity_recs.specs.Bodies.{abs_of}
@@ -31,11 +32,13 @@ pub record IsRuled (F : Fixed) : Type 0 where
   pub depth : IsTreeDepth F.tree.depth
   pub start : IsStart F
 
--- the same, with the slots of the live players as the bits of a word, and the things of the map from a place on, with an
--- index of their absolute boxes
-pub record IsRuledWith (F : Fixed) (records : List Rec) (bits first : ℕ) (index : StripsView) : Type 0 where
+-- the same, with the first leaf's node, the slots of the live players as the bits of a word, and the things of the map
+-- from a place on, with an index of their absolute boxes
+pub record IsRuledWith (F : Fixed) (records : List Rec) (leaf bits first : ℕ) (index : StripsView) : Type 0 where
   pub depth : IsTreeDepth F.tree.depth
   pub start : IsStart F
+  pub leaf_is : leaf ≡ inner_nodes F
+  pub leaf_few : leaf < MOST_LEAVES
   pub slots : (slot : ℕ) → slot < 64 → has_bit bits slot ≡ has F.start.ids slot
   pub fits : first ≤ length records
   pub things : drop first records ≡ filter (λ (r : Rec). nat_le 64 r.id) records

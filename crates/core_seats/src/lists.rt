@@ -2,11 +2,10 @@ ghost use Rattle.std.specs.Prelude.{◌≡◌, ◌+◌, ◌<◌, ◌≤◌, ◌-
 ghost use Rattle.std.specs.Prelude.{length, filter, map, not, if◌then◌else◌};
 ghost use Rattle.std.specs.List.{range_with_len};
 ghost use Rattle.areanode.specs.Words.{has_bit};
-ghost use Rattle.areanode.specs.Trees.{IsTreeDepth, leaf_node, inner_in, leaves_in, nodes_in};
 ghost use Rattle.core_steps.specs.Held.{bits_of_leaves};
 
 use crate::queue::{NodeQueue, Queue, WordList};
-use areanode::{MOST_LEAVES, MOST_NODES, Tree};
+use areanode::{MOST_LEAVES, MOST_NODES};
 use arrayvec::ArrayVec;
 
 /// Whether a bit of a word is set.
@@ -48,48 +47,30 @@ pub fn with_top_bit(word: u64, slot: u8, is_set: bool) -> u64
     if is_set { word + (1 << slot) } else { word }
 }
 
-/// The first leaf's node, which is also the number of inner nodes.
-pub fn first_leaf(tree: &Tree) -> u8
-    ensures value { result ≡ inner_in tree.now.depth }
-    ensures few { result < MOST_LEAVES }
-    ensures depth { IsTreeDepth tree.now.depth }
-{
-    tree.first_leaf()
-}
-
-/// How many leaves a tree has.
-fn count_leaves(tree: &Tree) -> u8
-    ensures value { result ≡ leaves_in tree.now.depth }
-    ensures few { result ≤ MOST_LEAVES }
-{
-    tree.leaves()
-}
-
-/// The nodes of these leaves of a tree, bit i for leaf i, rising.
-pub fn leaf_nodes(tree: &Tree, leaves: u64) -> NodeQueue
-    ensures nodes { result.items ≡ map (leaf_node tree.now.depth)
-        (filter (has_bit leaves) (range_with_len 0 (leaves_in tree.now.depth))) }
+/// The nodes of these leaves, bit i for leaf i, rising, in a tree with this first leaf, which has one more leaf than inner
+/// nodes.
+pub fn leaf_nodes(first_leaf: u8, leaves: u64) -> NodeQueue
+    requires { first_leaf < MOST_LEAVES }
+    ensures nodes { result.items ≡ map (λ leaf. first_leaf + leaf)
+        (filter (has_bit leaves) (range_with_len 0 (first_leaf + 1))) }
     ensures few { length result.items ≤ MOST_LEAVES }
 {
-    let first = first_leaf(tree);
-    let count = count_leaves(tree);
     let mut nodes = Queue::new();
-    for leaf in 0..count {
+    for leaf in 0..first_leaf + 1 {
         if is_set(leaves, leaf) {
-            nodes.push(first + leaf);
+            nodes.push(first_leaf + leaf);
         }
     }
     nodes
 }
 
-/// The inner ones among two nodes of a tree, rising, without repeats.
-pub fn inner_among(tree: &Tree, a: u8, b: u8) -> NodeQueue
-    ensures { result.items ≡ filter (λ node. (node == a) || (node == b))
-        (range_with_len 0 (inner_in tree.now.depth)) }
+/// The inner ones among two nodes, rising, without repeats, in a tree with this first leaf.
+pub fn inner_among(first_leaf: u8, a: u8, b: u8) -> NodeQueue
+    requires { first_leaf < MOST_LEAVES }
+    ensures { result.items ≡ filter (λ node. (node == a) || (node == b)) (range_with_len 0 first_leaf) }
 {
-    let first = first_leaf(tree);
     let mut nodes = Queue::new();
-    for node in 0..first {
+    for node in 0..first_leaf {
         if is_either(node, a, b) {
             nodes.push(node);
         }
@@ -109,17 +90,16 @@ pub fn nodes_then(front: NodeQueue, back: &NodeQueue) -> NodeQueue
     nodes
 }
 
-/// The leaves of these nodes of a tree, bit i for leaf i.
-pub fn leaf_word(tree: &Tree, nodes: &[u8]) -> u64
-    requires nodes { All (λ n. n < nodes_in tree.now.depth) nodes.now }
+/// The leaves of these nodes, bit i for leaf i, in a tree with this first leaf.
+pub fn leaf_word(first_leaf: u8, nodes: &[u8]) -> u64
+    requires nodes { All (λ n. n < first_leaf + MOST_LEAVES) nodes.now }
     requires few { length nodes.now ≤ MOST_NODES }
-    ensures word { result ≡ bits_of_leaves (map (λ n. n - inner_in tree.now.depth) nodes.now) }
+    ensures word { result ≡ bits_of_leaves (map (λ n. n - first_leaf) nodes.now) }
     ensures small { result ≤ 2 ^ MOST_LEAVES * length nodes.now }
 {
-    let first = first_leaf(tree);
     let mut word = 0;
     for node in nodes {
-        word += 1 << node.saturating_sub(first);
+        word += 1 << node.saturating_sub(first_leaf);
     }
     word
 }

@@ -1,7 +1,7 @@
 ghost use Rattle.std.specs.Prelude.{◌≡◌};
 ghost use Rattle.areanode.specs.Trees.{IsTreeDepth};
 
-use crate::lists::{bits_below, first_leaf, inner_among, leaf_nodes, leaf_word, nodes_then};
+use crate::lists::{bits_below, inner_among, leaf_nodes, leaf_word, nodes_then};
 use crate::near::{put_near, put_things};
 use crate::near_kept::{count_players, player_bits};
 use crate::queue::NodeQueue;
@@ -22,6 +22,8 @@ use world_tree::NearList;
 pub struct Rules<'a, A: Action> {
     action: &'a A,
     tree: Tree,
+    /// The first leaf's node, which is also the number of inner nodes.
+    first_leaf: u8,
     pub(crate) start: Vec<Rec>,
     /// The slots of the players that are live, a bit for each.
     pub(crate) players: u64,
@@ -40,15 +42,7 @@ impl<'a, A: Action> Model for Rules<'a, A> {
 
     ghost invariant = { λ r. IsRuledWith (fixed_of A.meaning
         (record { action = r.action.now; tree = r.tree; start = r.start.items }))
-        r.start.items r.players r.first_thing r.index };
-}
-
-/// A tree has a depth that it may have.
-fn has_its_depth(tree: &Tree)
-    ensures { IsTreeDepth tree.now.depth }
-{
-    // To ask for the depth is to know its range.
-    let _depth = tree.depth();
+        r.start.items r.first_leaf r.players r.first_thing r.index };
 }
 
 impl<'a, A: Action> Rules<'a, A> {
@@ -82,12 +76,13 @@ impl<'a, A: Action> Rules<'a, A> {
             (record { action = action.now; tree = tree.now; start = start.now })) }
         ensures { IfOk result (λ r. r ≡ record { action = action.now; tree = tree.now; start = start.now }) }
     {
-        has_its_depth(tree);
+        let first_leaf = tree.first_leaf();
         let first_thing = count_players(start);
         let index = index_of(alloc, &start[first_thing..])?;
         Ok(Rules {
             action,
             tree: *tree,
+            first_leaf,
             start: Vec::from_slice(alloc, start)?,
             players: player_bits(start),
             first_thing,
@@ -139,14 +134,14 @@ impl<'a, A: Action> Rules<'a, A> {
         ensures value { result ≡ inner_nodes (fixed_of A.meaning self.now) }
         ensures few { result < MOST_LEAVES }
     {
-        first_leaf(&self.tree)
+        self.first_leaf
     }
 
     /// Whether the node is a leaf.
     pub fn is_leaf(&self, node: u8) -> bool
         ensures { result ≡ is_leaf (fixed_of A.meaning self.now) node }
     {
-        node >= self.first_leaf()
+        node >= self.first_leaf
     }
 
     /// The region of a command whose own record was loaded so.
@@ -161,7 +156,7 @@ impl<'a, A: Action> Rules<'a, A> {
     pub fn leaves(&self, region: &Region) -> NodeQueue
         ensures { result.items ≡ leaf_nodes (fixed_of A.meaning self.now) region.now }
     {
-        leaf_nodes(&self.tree, u64::from(self.tree.leaves_of(region)))
+        leaf_nodes(self.first_leaf, u64::from(self.tree.leaves_of(region)))
     }
 
     /// The leaves of a region, bit i for leaf i, and the inner nodes that are visited for them, bit i for node i.
@@ -179,8 +174,7 @@ impl<'a, A: Action> Rules<'a, A> {
         requires { leaves < 2 ^ leaves_in self.now.tree.depth }
         ensures { let depth = self.now.tree.depth in result ≡ visited_of depth leaves % 2 ^ inner_in depth }
     {
-        let first = first_leaf(&self.tree);
-        (self.tree.visited_nodes(leaves) % (1 << first)) as u32
+        (self.tree.visited_nodes(leaves) % (1 << self.first_leaf)) as u32
     }
 
     /// The nodes of a region's leaves, rising, where these are its leaves, bit i for leaf i.
@@ -188,7 +182,7 @@ impl<'a, A: Action> Rules<'a, A> {
         ensures { (region : List Bounds) → leaves ≡ leaves_of self.now.tree region
             → result.items ≡ leaf_nodes (fixed_of A.meaning self.now) region }
     {
-        leaf_nodes(&self.tree, u64::from(leaves))
+        leaf_nodes(self.first_leaf, u64::from(leaves))
     }
 
     /// The nodes that are read for a region: its leaves, then the inner nodes that are visited, each rising.
@@ -196,8 +190,8 @@ impl<'a, A: Action> Rules<'a, A> {
         ensures { result.items ≡ plan_of (fixed_of A.meaning self.now) region.now }
     {
         let leaves = self.tree.leaves_of(region);
-        let plan = leaf_nodes(&self.tree, u64::from(leaves));
-        let inner = bits_below(self.tree.visited_nodes(leaves), first_leaf(&self.tree));
+        let plan = leaf_nodes(self.first_leaf, u64::from(leaves));
+        let inner = bits_below(self.tree.visited_nodes(leaves), self.first_leaf);
         nodes_then(plan, &inner)
     }
 
@@ -214,7 +208,7 @@ impl<'a, A: Action> Rules<'a, A> {
     pub fn inner_of_two(&self, a: u8, b: u8) -> NodeQueue
         ensures { result.items ≡ inner_of_two (fixed_of A.meaning self.now) a b }
     {
-        inner_among(&self.tree, a, b)
+        inner_among(self.first_leaf, a, b)
     }
 
     /// Puts the ids of the things of the map whose absolute box touches a region into an empty list, in rising id. It
@@ -265,7 +259,7 @@ impl<'a, A: Action> Rules<'a, A> {
         ensures small { result ≤ 2 ^ MOST_LEAVES * MOST_NODES }
     {
         if self.is_leaf(node) {
-            leaf_word(&self.tree, wanted)
+            leaf_word(self.first_leaf, wanted)
         } else if writing {
             1
         } else {

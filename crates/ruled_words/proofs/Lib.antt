@@ -29,6 +29,7 @@ pub mod GivingUp
 pub mod Claims
 pub mod LoadedWords
 pub mod TriedTakes
+pub mod TriesLeft
 pub mod RefusedTakes
 pub mod Visited
 pub mod VisitedNodes

@@ -1,7 +1,8 @@
 -- The words of a record that a hand loads, one after another.
-use Rattle.std.proofs.Common.{◌≡◌, ℕ, suc, ◌<◌, arith, Bool, true, false, if◌then◌else◌, List, [], ◌∷◌, ◌++◌, length, refl, ap, ◌∙◌, Option, Some, None}
+use Rattle.std.proofs.Common.{◌≡◌, ℕ, suc, ◌+◌, ◌<◌, ◌≤◌, take, set, arith, Bool, true, false, if◌then◌else◌, List, [], ◌∷◌, ◌++◌, length, refl, ap, ◌∙◌, Option, Some, None}
 use Rattle.std.specs.Prelude.{◌==◌}
 use Rattle.std.proofs.lemmas.Bool.{cond-true, cond-false, ne_eqb, eq-eqb}
+use Rattle.std.proofs.lemmas.List.{length-take-le, take_all, take_more_set}
 use Rattle.entity_recs.specs.declared.effect.Effect.{Effect}
 use Rattle.entity_recs.specs.Commands.{Command}
 use Rattle.core_steps.specs.Cells.{cell_of, cell_index}
@@ -89,6 +90,16 @@ module _ (F : Fixed) (p : PassView) (c : Command) where
       (cond-true (length words == 6) (taking_leaves F c words p.view) (record p.view { cmd = c; own = words; point = Owning }) (eq-eqb (length words) 6 six))
 
 -- ---- six words
+
+-- the words of an array of six that are loaded, which come first
+pub part_size : (words : List ℕ) (k : ℕ) → length words ≡ 6 → k ≤ 6 → length (take k words) ≡ k
+part_size words k six few = length-take-le k words (omega (arith, six, few))
+
+pub part_more : (words : List ℕ) (k word : ℕ) → length words ≡ 6 → k < 6 → take (k + 1) (set words k word) ≡ take k words ++ word ∷ []
+part_more words k word six few = take_more_set words k word (omega (arith, six, few))
+
+pub part_whole : (words : List ℕ) (k : ℕ) → length words ≡ 6 → k ≡ 6 → take k words ≡ words
+part_whole words k six whole = take_all k words (omega (arith, six, whole))
 
 pub by_six : (P : List ℕ → Type 0) → ((a b c d e f : ℕ) → P (a ∷ b ∷ c ∷ d ∷ e ∷ f ∷ [])) → (words : List ℕ) → length words ≡ 6 → P words
 by_six P made [] six = absurd (omega (arith, six))

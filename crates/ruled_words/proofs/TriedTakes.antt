@@ -350,13 +350,6 @@ module _ (F : Fixed) (p : PassView) (leaves : ℕ) (plain : IsPlain p) (wants : 
           ap (take taken) (sym is_taking_leaf.all) ∙ ap (λ (n : ℕ). take n (got_at now.view.point ++ node ∷ leaf_list F after)) so_many_got
           ∙ take-append_seam (got_at now.view.point) (node ∷ leaf_list F after)
 
-      pub leaves_enough : taken ≤ length now.view.wanted
-      leaves_enough =
-          let whole : length now.view.wanted ≡ length (got_at now.view.point) + length (node ∷ leaf_list F after) =
-          ap (λ (xs : List ℕ). length xs) (sym is_taking_leaf.all) ∙ length-append (got_at now.view.point) (node ∷ leaf_list F after) in
-          let many = so_many_got in
-          omega (arith, whole, many)
-
       pub one_more_taken : taken + 1 + length (leaf_list F after) ≡ length (leaf_list F leaves)
       one_more_taken = let left = ap (λ (xs : List ℕ). length xs) (leaf_list_first F rest after leaf node first there) in omega (arith, left, so_many)
 

@@ -3,7 +3,7 @@
 
 pub use hand::Hand;
 pub use held::Held;
-pub use patience::{AtOnce, GivenUp, Patience, Waiting};
+pub use patience::{AtOnce, GivenUp, NoTries, Patience, Waiting};
 pub use reading::index_of_word;
 pub use rule::laws::{
     closed_table_is_its_run, ended_seats_keep_the_rule, held_words_name_their_holder,

@@ -1,12 +1,14 @@
 -- What a move leaves of its pass, by what its hand ran.
-use Rattle.std.proofs.Common.{◌≡◌, ℕ, suc, ◌+◌, ◌≤◌, true, false, if◌then◌else◌, length, refl, sym, ap, ◌∙◌, subst, inl, inr, Option, Some, None, is_some, Result, Ok, Err, arith}
+use Rattle.std.proofs.Common.{◌≡◌, ℕ, suc, ◌+◌, ◌-◌, ◌<◌, ◌≤◌, List, [], ◌∷◌, ◌++◌, get_or, true, false, if◌then◌else◌, length, refl, sym, ap, ◌∙◌, subst, inl, inr, Option, Some, None, is_some, Result, Ok, Err, arith}
 use Rattle.std.specs.Option.{option_map}
 use Rattle.std.specs.Result.{OnErr, IsOk}
 use Rattle.std.proofs.lemmas.Bool.{cases_Bool, false≢true}
+use Rattle.std.proofs.lemmas.List.{length-append, length-map}
 use Rattle.std.proofs.lemmas.Option.{same_Some}
 use Rattle.atomic_table.specs.Seated.{TableId}
 use Rattle.entity_recs.specs.declared.effect.Entry.{Entry}
 use Rattle.entity_recs.specs.Commands.{Command}
+use Rattle.entity_recs.specs.Histories.{Item}
 use Rattle.move_journal.specs.Logs.{JournalView}
 use Rattle.world_tree.specs.Nears.{NearView}
 use Rattle.core_steps.specs.Nodes.{Fixed}
@@ -14,6 +16,7 @@ use Rattle.core_steps.specs.Reads.{Refused}
 use Rattle.core_steps.specs.Steps.{is_taking}
 use Rattle.core_seats.specs.declared.refusals.Refusals.{Refusals}
 use Rattle.core_seats.specs.declared.refusals.Refused as noted
+use Rattle.core_seats.specs.Logs.{entries_of}
 use Rattle.core_seats.specs.Refusals.{last_of, refused_of}
 use Rattle.core_seats.specs.Ready.{is_resolving}
 use Rattle.ruled_words.specs.Passes.{PassView, IsPassOf}
@@ -108,3 +111,20 @@ waits_on (Err e) err = absurd (false≢true (sym err))
 -- the last refused take in plain values is the one in view
 pub is_noted : (r : Refusals) (o : Refused) (x : noted.Refused) → last_of r ≡ Some o → Some x ≡ r.last → refused_of x ≡ o
 is_noted r o x last is = same_Some (refused_of x) o (ap (option_map refused_of) is ∙ last)
+
+-- ---- the log's last entry
+
+pub as_many_entries : (log : List Item) → length (entries_of log) ≡ length log
+as_many_entries log = length-map log (λ (item : Item). item.entry)
+
+pub some_logged : (earlier : List Item) (i : Item) → 0 < length (earlier ++ i ∷ [])
+some_logged earlier i = let long = length-append earlier (i ∷ []) in omega (arith, long)
+
+pub last_logged : (earlier : List Item) (i : Item) (d : Entry) → get_or (entries_of (earlier ++ i ∷ [])) (length (entries_of (earlier ++ i ∷ [])) - 1) d ≡ i.entry
+last_logged [] i d = refl
+last_logged (x ∷ earlier) i d =
+    let rest = entries_of (earlier ++ i ∷ []) in
+    let size = as_many_entries (earlier ++ i ∷ []) in
+    let some = some_logged earlier i in
+    let at : suc (length rest) - 1 ≡ suc (length rest - 1) = omega (arith, size, some) in
+    ap (λ (n : ℕ). get_or (x.entry ∷ rest) n d) at ∙ last_logged earlier i d

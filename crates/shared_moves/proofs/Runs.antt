@@ -8,7 +8,7 @@ use Rattle.entity_recs.specs.Histories.{entry_of}
 use Rattle.core_steps.specs.Steps.{visiting}
 use Rattle.core_steps.specs.Nodes.{Fixed, plan_of}
 use Rattle.core_steps.specs.Points.{Point, stage_of, is_committed, Checking, Resolving}
-use Rattle.core_steps.specs.Reads.{View, without_command, region_in}
+use Rattle.core_steps.specs.Reads.{View, without_command, region_in, effect_loaded}
 use Rattle.core_seats.specs.Ready.{is_resolving}
 use Rattle.core_seats.specs.declared.refusals.Refusals.{Refusals}
 use Rattle.core_seats.specs.Refusals.{AreRefusals}
@@ -16,12 +16,12 @@ use Rattle.ruled_words.specs.GivingUp.{NoTakeWasRefused, HasGivenUp, IsRefusedBy
 use Rattle.ruled_words.specs.Sights.{HeldWord, Tally}
 use Rattle.ruled_words.specs.Passes.{PassView}
 use Rattle.ruled_words.specs.Hands.{pass_keeping}
-use Rattle.ruled_words.specs.Straight.{in_view, in_view_with, taking_leaves, at_point, nodes_read, HasMoreInFront, IsTriedOn}
+use Rattle.ruled_words.specs.Straight.{in_view, in_view_with, taking_leaves, at_point, nodes_read, AreOfCommand, AreHeldFor, HasMoreInFront, IsTriedOn}
 use Rattle.ruled_words.specs.declared.held.Held.{Held}
 use Rattle.ruled_words.specs.Tries.{tried_until}
 use Rattle.ruled_words.specs.Writing.{HasWritten, all_written}
 use Rattle.shared_moves.specs.declared.gate_point.GatePoint.TheVariants.{Leaves, Computed, Committed}
-use Rattle.shared_moves.specs.InHand.{HoldsLeavesAlone, is_checking, item_of}
+use Rattle.shared_moves.specs.InHand.{HoldsLeavesAlone, command_pursued, is_checking, item_of}
 use Rattle.shared_moves.specs.Moments.{IsAtPoint}
 use Rattle.shared_moves.specs.Runs.{HoldsLeavesOf, HasReadAll, HasMoved, HasLeft, HasInHand, all_read}
 use Rattle.ruled_words.proofs.GivingUp.{none_refused_yet}
@@ -107,7 +107,7 @@ module _ (F : Fixed) (old at new : PassView) (first : at ≡ in_view_with old (n
   both : new ≡ in_view_with old (record (nodes_read F old.view at.view) { states = new.view.states; point = Resolving }) at.tally
   both = second ∙ ap (λ (p : PassView). in_view p (record p.view { states = new.view.states; point = Resolving })) first
 
-  pub read_all : new ≡ in_view_with old (all_read old.view new.view) new.tally
+  read_all : new ≡ in_view_with old (all_read old.view new.view) new.tally
   read_all =
       let lists : at.view.lists ≡ new.view.lists = sym (ap (λ (p : PassView). p.view.lists) both) in
       let others : at.view.others ≡ new.view.others = sym (ap (λ (p : PassView). p.view.others) both) in
@@ -123,8 +123,15 @@ module _ (F : Fixed) (old at new : PassView) (first : at ≡ in_view_with old (n
         refused = last i;
       }) (tally i))
 
-  pub read_tally : IsTriedOn old.tally at.tally → IsTriedOn old.tally new.tally
+  read_tally : IsTriedOn old.tally at.tally → IsTriedOn old.tally new.tally
   read_tally tried = subst (IsTriedOn old.tally) (sym (ap (λ (p : PassView). p.tally) both)) tried
+
+  -- what is read, with the effect on it
+  pub has_read : (e : Effect) → IsTriedOn old.tally at.tally → e ≡ effect_loaded F new.view → HasReadAll F e old new
+  has_read e tried effect = record { hand = read_all; tried = read_tally tried; effect = effect }
+
+  pub none_while_read : NoTakeWasRefused old at → NoTakeWasRefused old new
+  none_while_read none = none_refused_yet old at new none (none_at at new _ _ second refl refl refl)
 
   pub read_refusals : (r : Refusals) → AreRefusals r at.view → AreRefusals r new.view
   read_refusals r are = refusals_kept r at.view new.view (sym (ap (λ (p : PassView). p.view.refusals) both)) (sym (ap (λ (p : PassView). p.view.refused) both)) are
@@ -134,6 +141,13 @@ module _ (F : Fixed) (old at new : PassView) (first : at ≡ in_view_with old (n
     come = ap (λ (p : PassView). is_resolving p.view.point && true) both;
     alone = subst (λ (p : PassView). HoldsLeavesAlone (pass_keeping p e)) (sym both) (record { busy = refl; leaves = refl; inner = λ G. refl; stores = refl });
   }
+
+-- what is held by a command is held where a view has the same command, own record and wanted leaves
+pub held_still : (F : Fixed) (held : Held) (v w : View) → w.cmd ≡ v.cmd → w.own ≡ v.own → w.wanted ≡ v.wanted → AreHeldFor F held v → AreHeldFor F held w
+held_still F held v w cmd own wanted are =
+    subst (λ (c : Command). AreOfCommand F held c w.own w.wanted) (sym cmd)
+    (subst (λ (words : List ℕ). AreOfCommand F held v.cmd words w.wanted) (sym own)
+    (subst (λ (nodes : List ℕ). AreOfCommand F held v.cmd v.own nodes) (sym wanted) are))
 
 -- ---- the whole move
 
@@ -146,7 +160,10 @@ module _ (F : Fixed) (c : Command) (held : Held) (words : List ℕ) (q : Point) 
   at_again : h2 ≡ in_view_with h0 checked_view h1.tally
   at_again = again ∙ ap (λ (p : PassView). in_view p (record p.view { again = words; point = q })) holds.hand
 
-  pub none_again : NoTakeWasRefused h1 h2
+  pub cmd_again : h2.view.cmd ≡ c
+  cmd_again = ap (λ (p : PassView). p.view.cmd) at_again
+
+  none_again : NoTakeWasRefused h1 h2
   none_again = none_at h1 h2 _ _ again refl refl refl
 
   pub in_hand_again : NoTakeWasRefused h0 h1 → HasInHand c h0 h2
@@ -177,6 +194,9 @@ module _ (F : Fixed) (c : Command) (held : Held) (words : List ℕ) (q : Point) 
           begun = read.tried.begun ∙ ap (λ (p : PassView). p.tally.begun) again ∙ holds.begun;
           listed = none.listed;
         }
+
+    pub in_hand_known : command_pursued h3 ≡ c ∷ []
+    in_hand_known = ap (λ (p : PassView). command_pursued p) at_read
 
     pub again_still : words ≡ h3.view.again
     again_still = sym (ap (λ (p : PassView). p.view.again) at_read)

@@ -34,6 +34,11 @@ pub record HasRun (F : Fixed) (passes : ℕ) (table : TableId) (old new : PassVi
     pub listed : HasMoreInFront old.tally.refused new.tally.refused
     pub counted : new.view.refusals ≡ min (old.view.refusals + length listed.more) (2 ^ 64 - 1)
 
+-- the command was run so with some entry, which the log of the pass ends with
+pub record HasRunIntoLog (F : Fixed) (passes : ℕ) (table : TableId) (old new : PassView) (c : Command) : Type 0 where
+  pub entry : Entry
+  pub run : HasRun F passes table old new c entry
+
 -- the refused take was of a leaf that the command wants, by the own record as loaded, and its word names the holder,
 -- which isn't this pass, with its leaves, which have that leaf
 pub record IsLeafHeld (F : Fixed) (passes own : ℕ) (c : Command) (r : Refused) (leaf holder leaves : ℕ) : Type 0 where

@@ -1,10 +1,14 @@
-ghost use Rattle.std.specs.Prelude.{◌≡◌, IfOk};
+ghost use Rattle.std.specs.Prelude.{◌≡◌, ◌<◌, List, [], ◌∷◌, ◌++◌, length, IfOk};
+ghost use Rattle.entity_recs.specs.Commands.{Command};
+ghost use Rattle.entity_recs.specs.Histories.{Item};
 ghost use Rattle.ruled_words.specs.Passes.{sight_of};
 ghost use Rattle.shared_moves.specs.PassParts.{IsFresh};
 ghost use Rattle.shared_moves.specs.Closing.{log_from};
+ghost use Rattle.shared_moves.specs.InHand.{item_of};
 
 use core_seats::Refusals;
-use move_journal::Log;
+use entity_recs::Entry;
+use move_journal::{Log, same_entry};
 use ruled_words::Hand;
 use std::alloc::{AllocError, Global};
 use std::marker::{Model, PhantomData};
@@ -62,6 +66,16 @@ impl<A> Pass<A> {
         ensures log { result.1 ≡ log_from self }
     {
         (self.hand, self.log)
+    }
+
+    /// The entry that the log ends with, once more.
+    pub(crate) fn last_entry(&self) -> Entry
+        requires { 0 < length self.now.view.log }
+        ensures { (earlier : List Item) (c : Command) (e : Entry)
+            → self.now.view.log ≡ earlier ++ item_of c e ∷ [] → result ≡ e }
+    {
+        let entries = self.log.as_slice();
+        same_entry(&entries[entries.len() - 1])
     }
 
     /// The pass's number.

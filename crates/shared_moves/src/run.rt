@@ -4,7 +4,7 @@ ghost use Rattle.core_steps.specs.Nodes.{has};
 ghost use Rattle.ruled_words.specs.GivingUp.{NoTakeWasRefused};
 ghost use Rattle.ruled_words.specs.Passes.{fixed_in, IsOwn};
 ghost use Rattle.shared_moves.specs.InHand.{MayBegin};
-ghost use Rattle.shared_moves.specs.Moves.{HasRun, WasNotRun};
+ghost use Rattle.shared_moves.specs.Moves.{HasRun, HasRunIntoLog, WasNotRun};
 
 use crate::again::{Again, again_after};
 use crate::gate::Gate;
@@ -17,15 +17,15 @@ use ruled_words::{AtOnce, GivenUp, Waiting};
 use std::sync::Wait;
 
 impl<'a, A: Action> Shared<'a, A> {
-    /// Runs the command and gives its entry. Each take that is refused is tried again until it is served, so the call
-    /// may wait.
-    pub fn run<R: Wait, G: Gate>(&self, rt: &R, pass: &mut Pass<A>, cmd: Cmd, gate: &G) -> Entry
+    /// Runs the command, whose entry the log of the pass then ends with. Each take that is refused is tried again until
+    /// it is served, so the call may wait.
+    pub fn run_into_log<R: Wait, G: Gate>(&self, rt: &R, pass: &mut Pass<A>, cmd: Cmd, gate: &G)
         requires own { IsOwn A.meaning self.now pass.old }
         requires free { MayBegin pass.old }
         requires live { has (fixed_in A.meaning self.now).start.ids cmd.slot ≡ true }
         requires serves { cmd.slot % length self.now.rooms ≡ pass.old.number }
-        ensures { HasRun (fixed_in A.meaning self.now) (length self.now.rooms) self.now.table
-            pass.old pass.new (command_of cmd) result }
+        ensures { HasRunIntoLog (fixed_in A.meaning self.now) (length self.now.rooms) self.now.table
+            pass.old pass.new (command_of cmd) }
     {
         let walked = walk(
             &self.words,
@@ -37,9 +37,20 @@ impl<'a, A: Action> Shared<'a, A> {
             gate,
         );
         // A walk that waits isn't given up.
-        let entry = walked.unwrap();
-        pass.log.push(same_entry(&entry));
-        entry
+        pass.log.push(walked.unwrap());
+    }
+
+    /// Runs the command and gives its entry, as `run_into_log`, which leaves it in the log of the pass.
+    pub fn run<R: Wait, G: Gate>(&self, rt: &R, pass: &mut Pass<A>, cmd: Cmd, gate: &G) -> Entry
+        requires own { IsOwn A.meaning self.now pass.old }
+        requires free { MayBegin pass.old }
+        requires live { has (fixed_in A.meaning self.now).start.ids cmd.slot ≡ true }
+        requires serves { cmd.slot % length self.now.rooms ≡ pass.old.number }
+        ensures { HasRun (fixed_in A.meaning self.now) (length self.now.rooms) self.now.table
+            pass.old pass.new (command_of cmd) result }
+    {
+        self.run_into_log(rt, pass, cmd, gate);
+        pass.last_entry()
     }
 
     /// Runs the command and gives its entry, without waiting: no take is refused. `Err` where a node that it takes was

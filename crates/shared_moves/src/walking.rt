@@ -1,21 +1,18 @@
-ghost use Rattle.std.specs.Prelude.{◌≡◌, ◌≤◌, ◌+◌, ◌%◌, false, length, [], IfOk, OnOk, OnErr};
+ghost use Rattle.std.specs.Prelude.{◌≡◌, ◌≤◌, ◌+◌, ◌%◌, false, length, IfOk, OnOk, OnErr};
 ghost use Rattle.entity_recs.specs.Commands.{command_of};
 ghost use Rattle.entity_recs.specs.Histories as histories;
 ghost use Rattle.core_steps.specs.Machine.{IsPending};
-ghost use Rattle.core_steps.specs.Steps.{visiting};
-ghost use Rattle.core_steps.specs.Nodes.{plan_of};
 ghost use Rattle.core_steps.specs.Points.{Idle};
-ghost use Rattle.core_steps.specs.Reads.{region_in};
 ghost use Rattle.core_seats.specs.Refusals.{AreRefusals};
-ghost use Rattle.ruled_words.specs.GivingUp.{NoTakeWasRefused, HasGivenUp};
+ghost use Rattle.ruled_words.specs.GivingUp.{NoTakeWasRefused};
 ghost use Rattle.ruled_words.specs.Hands.{IsOwnHand, plain_pass};
 ghost use Rattle.ruled_words.specs.Passes.{fixed_in, IsOwn};
 ghost use Rattle.ruled_words.specs.Straight.{AreHeldFor};
-ghost use Rattle.shared_moves.specs.Runs.{HoldsLeavesOf, HasReadAll, HasMoved, HasLeft};
+ghost use Rattle.shared_moves.specs.Runs.{HoldsLeavesOf, HasMoved, HasLeft};
 
 use crate::gate::{Gate, show_moment};
 use crate::moment::Moment;
-use core_seats::{LoadedPlayer, Refusals};
+use core_seats::Refusals;
 use entity_recs::{Action, Cmd, Effect, Entry};
 use move_journal::same_reply;
 use ruled_words::{GivenUp, Hand, Held, Patience, SharedWords};
@@ -75,43 +72,6 @@ fn hold_leaves<A: Action, P: Patience, G: Gate>(
     Ok(held)
 }
 
-/// Loads all that the region holds, and gives the effect. The near list has room for 64 records and all that live at the
-/// start. `Err` where an inner node was held: the command is then given up.
-fn read_region<A: Action, P: Patience, G: Gate>(
-    words: &SharedWords<A>,
-    patience: &P,
-    hand: &mut Hand,
-    refusals: &mut Refusals,
-    near: &mut NearList,
-    cmd: &Cmd,
-    held: &Held,
-    again: &LoadedPlayer,
-    gate: &G,
-) -> Result<Effect, GivenUp>
-    requires own { IsOwnHand A.meaning words.now hand.old }
-    requires at { let F = fixed_in A.meaning words.now in let v = hand.old.view in
-        v.point ≡ visiting F v (plan_of F (region_in F v.cmd v.own)) }
-    requires others { hand.old.view.others ≡ [] }
-    requires held { AreHeldFor (fixed_in A.meaning words.now) held.now hand.old.view }
-    requires cmd_is { command_of cmd.now ≡ hand.old.view.cmd }
-    requires again_is { again.now ≡ hand.old.view.again }
-    requires room { 64 + length (fixed_in A.meaning words.now).start.ids ≤ near.old.room }
-    ensures own { IsOwnHand A.meaning words.now hand.new }
-    ensures read { IfOk result (λ e. HasReadAll (fixed_in A.meaning words.now) e hand.old hand.new) }
-    ensures served { OnOk result (P.waits ≡ false → NoTakeWasRefused hand.old hand.new) }
-    ensures at_once { OnErr result (P.waits ≡ false) }
-    ensures given_up { OnErr result
-        (HasGivenUp (fixed_in A.meaning words.now) (length words.now.rooms) hand.old hand.new) }
-    ensures refusals { AreRefusals refusals.old hand.old.view → AreRefusals refusals.new hand.new.view }
-    ensures room { near.new.room ≡ near.old.room }
-{
-    let mut by_slot = [[0; 6]; 64];
-    let seen = words.read_nodes(patience, hand, refusals, held, &mut by_slot)?;
-    let effect = words.read_effect(hand, near, cmd, &held.region, again, seen, &by_slot);
-    gate.at(&Moment::at_effect(words, hand, cmd, &effect));
-    Ok(effect)
-}
-
 /// Runs the command on a hand that rests, and gives its entry. The near list has room for 64 records and all that live at
 /// the start. `Err` where a node was held, and the patience doesn't wait for it: all that the hand held is given back, and
 /// the command is no longer in hand.
@@ -140,9 +100,10 @@ pub fn walk<A: Action, P: Patience, G: Gate>(
 {
     let held = hold_leaves(words, patience, hand, refusals, cmd, gate)?;
     let again = words.own_again(hand, cmd.slot);
-    let effect = read_region(
-        words, patience, hand, refusals, near, cmd, &held, &again, gate,
-    )?;
+    let mut by_slot = [[0; 6]; 64];
+    let seen = words.read_nodes(patience, hand, refusals, &held, &mut by_slot)?;
+    let effect = words.read_effect(hand, near, cmd, &held.region, &again, seen, &by_slot);
+    gate.at(&Moment::at_effect(words, hand, cmd, &effect));
     let place = words.write_effect(patience, hand, refusals, &held, &again, &effect)?;
     let committed = Moment::at_commit(hand, cmd, entry_of(place, cmd, &effect));
     let entry = show_moment(committed, gate).unwrap();

@@ -19,6 +19,8 @@ use crate::word_step::WordStep;
 use core_seats::{Refusals, lowest_bit, without_bit};
 use core_steps::{NODE_HOLDERS, node_word};
 use entity_recs::Action;
+use std::hint::spin_loop;
+use std::thread;
 
 /// Whether the take was served: it found 0. One that was refused is counted.
 pub(crate) fn note_refused(refusals: &mut Refusals, held: &Held, node: u8, found: u64) -> bool
@@ -34,7 +36,22 @@ pub(crate) fn note_refused(refusals: &mut Refusals, held: &Held, node: u8, found
     false
 }
 
+/// How often the word of a node that was held is looked at before the thread is yielded.
+const LOOKS: u8 = 100;
+
 impl<'a, A: Action> SharedWords<'a, A> {
+    /// Waits until the word of a node that was held is 0, or for a while. To look is no step, and writes nothing, so it
+    /// hinders the holder less than a take that is refused.
+    pub(crate) fn wait_for(&self, node: u8) {
+        for _ in 0..LOOKS {
+            if self.table.shared.peek(usize::from(node_word(node))) == 0 {
+                return;
+            }
+            spin_loop();
+        }
+        thread::yield_now();
+    }
+
     /// Tries to take the node, which comes next, with this word: false where another pass holds it. The refused take is
     /// then noted, with the own record and the wanted leaves.
     pub(crate) fn try_node(
@@ -88,12 +105,12 @@ impl<'a, A: Action> SharedWords<'a, A> {
             → WasRefused (fixed_in A.meaning self.now) (length self.now.rooms) node hand.old hand.new }
         ensures refusals { AreRefusals refusals.old hand.old.view → AreRefusals refusals.new hand.new.view }
     {
-        let mut before = 0;
+        let mut tries = patience.more_tries();
         while !self.try_node(hand, refusals, held, node, new) {
-            if !patience.again(before) {
+            if tries.next().is_none() {
                 return false;
             }
-            before += 1;
+            self.wait_for(node);
         }
         true
     }

@@ -15,8 +15,7 @@ use crate::hand::Hand;
 use crate::shared_words::SharedWords;
 use crate::word_step::WordStep;
 use arena_geo::Region;
-use arrayvec::ArrayVec;
-use core_seats::{LoadedPlayer, WordList};
+use core_seats::LoadedPlayer;
 use core_steps::{record_word, state_word};
 use entity_recs::{Action, Cmd};
 
@@ -30,14 +29,6 @@ pub fn index_of_word(slot: u8, k: usize) -> usize
     } else {
         usize::from(state_word(u16::from(slot)))
     }
-}
-
-/// Six words as an array.
-fn loaded_player(words: &[u64]) -> LoadedPlayer
-    requires { length words.now ≡ 6 }
-    ensures { result ≡ words.now }
-{
-    [words[0], words[1], words[2], words[3], words[4], words[5]]
 }
 
 impl<'a, A: Action> SharedWords<'a, A> {
@@ -54,12 +45,12 @@ impl<'a, A: Action> SharedWords<'a, A> {
             (record hand.old.tally { begun = suc hand.old.tally.begun }) }
         ensures six { length result ≡ 6 }
     {
-        let mut words: WordList = ArrayVec::new();
-        words.push(self.begin_hand(hand, cmd));
-        for k in 1..6usize {
-            words.push(self.step_hand(hand, index_of_word(cmd.slot, k), WordStep::Load));
+        let mut words = [0; 6];
+        words[0] = self.begin_hand(hand, cmd);
+        for k in 1..6 {
+            words[k] = self.step_hand(hand, index_of_word(cmd.slot, k), WordStep::Load);
         }
-        loaded_player(words.as_slice())
+        words
     }
 
     /// Loads the record of the player in this slot, which are the hand's next six steps, and gives its words.
@@ -70,11 +61,11 @@ impl<'a, A: Action> SharedWords<'a, A> {
         ensures pass { hand.new ≡ after_loads (fixed_in A.meaning self.now) hand.old result }
         ensures six { length result ≡ 6 }
     {
-        let mut words: WordList = ArrayVec::new();
-        for k in 0..6usize {
-            words.push(self.step_hand(hand, index_of_word(slot, k), WordStep::Load));
+        let mut words = [0; 6];
+        for k in 0..6 {
+            words[k] = self.step_hand(hand, index_of_word(slot, k), WordStep::Load);
         }
-        loaded_player(words.as_slice())
+        words
     }
 
     /// Loads the own record again, once all leaves are held, and gives its words. Then the nodes of the region are to be

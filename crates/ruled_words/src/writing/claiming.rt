@@ -82,12 +82,12 @@ impl<'a, A: Action> SharedWords<'a, A> {
             → WasRefused (fixed_in A.meaning self.now) (length self.now.rooms) node hand.old hand.new }
         ensures refusals { AreRefusals refusals.old hand.old.view → AreRefusals refusals.new hand.new.view }
     {
-        let mut before = 0;
+        let mut tries = patience.more_tries();
         while !self.try_first(hand, refusals, held, effect, node) {
-            if !patience.again(before) {
+            if tries.next().is_none() {
                 return false;
             }
-            before += 1;
+            self.wait_for(node);
         }
         true
     }

@@ -4,6 +4,7 @@ use Rattle.entity_recs.specs.declared.rec.Rec.{Rec}
 use Rattle.entity_recs.specs.Actions.{HasValidity}
 use Rattle.entity_recs.specs.Bodies.{abs_of}
 use Rattle.entity_recs.specs.Records.{IsRecord}
+use Rattle.areanode.specs.Depths.{sizes_of_depth}
 use Rattle.box_strips.specs.Strips.{IsIndexOf}
 use Rattle.core_seats.specs.Shown.{RulesView, fixed_of, IsRuledWith}
 use Rattle.core_seats.proofs.SlotBits.{things_after_players}
@@ -39,11 +40,17 @@ invariant_of-result g c =
     let start = c.args.start.now in
     let first = c.count_players-first_thing.result in
     let index = c.in_ok-index.index in
-    subst (λ (rs : List Rec). IsRuledWith (fixed_of g.A.Action.meaning (record { action = c.args.action.now; tree = c.args.tree.now; start = rs })) rs c.player_bits.result first index)
+    let is = c.first_leaf-first_leaf.ensures.value in
+    let sizes = sizes_of_depth c.args.tree.now.depth c.first_leaf-first_leaf.ensures.range in
+    let leaves = sizes.leaves in
+    let some = sizes.some in
+    subst (λ (rs : List Rec). IsRuledWith (fixed_of g.A.Action.meaning (record { action = c.args.action.now; tree = c.args.tree.now; start = rs })) rs c.first_leaf-first_leaf.result c.player_bits.result first index)
     (sym c.in_ok-from_slice.ensures.items)
     (record {
-      depth = c.has_its_depth.ensures;
+      depth = c.first_leaf-first_leaf.ensures.range;
       start = c.requires;
+      leaf_is = is;
+      leaf_few = omega (arith, is, leaves, some);
       slots = c.player_bits.ensures;
       fits = c.count_players-first_thing.ensures.few;
       things = ap (λ (n : ℕ). drop n start) c.count_players-first_thing.ensures.count ∙ things_after_players start c.requires.rising;

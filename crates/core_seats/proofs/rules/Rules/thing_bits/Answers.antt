@@ -13,7 +13,7 @@ returns g c =
     let met = g.met.A.Action g.world.𝓛 g.world.𝓜 g.world.𝓡 ((λ s x. x), (λ x. x), (λ x. x), λ x. x) in
     let validity : HasValidity F.takes F.effect_of = met.validity c.self.inside.action.now in
     let things = drop c.self.inside.first_thing c.self.inside.start.items in
-    let are = are_things g.A.Action.meaning rules c.self.inside.players c.self.inside.first_thing c.self.inside.index validity c.self.invariant in
+    let are = are_things g.A.Action.meaning rules c.self.inside.first_leaf c.self.inside.players c.self.inside.first_thing c.self.inside.index validity c.self.invariant in
     let marks : MarksThings F c.args.region.now c.near_things.result =
     things_marked F things c.args.region.now c.near_things.result are (c.near_things.ensures (map abs_of things) c.self.invariant.placed) in
     rw (← c.self.view_is) marks

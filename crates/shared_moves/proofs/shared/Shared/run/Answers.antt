@@ -1,34 +1,20 @@
-use Rattle.std.proofs.Common.{◌+◌, ◌≤◌, sym, subst, length, Result}
-use Rattle.std.specs.Result.{IfOk}
+use Rattle.std.proofs.Common.{◌<◌, List, length, sym, subst}
 use Rattle.entity_recs.specs.declared.effect.Entry.{Entry}
 use Rattle.entity_recs.specs.Commands.{command_of}
-use Rattle.ruled_words.specs.Hands.{plain_pass}
-use Rattle.ruled_words.specs.Passes.{PassView, TableView, IsPassOf, fixed_in}
-use Rattle.shared_moves.specs.PassParts.{IsKeptBeside}
-use Rattle.shared_moves.specs.Runs.{HasMoved}
-use Rattle.shared_moves.proofs.PassRuns.{hand_own, near_room, pass_ran, waits_on}
+use Rattle.entity_recs.specs.Histories.{Item}
+use Rattle.ruled_words.specs.Passes.{fixed_in}
+use Rattle.shared_moves.specs.InHand.{item_of}
+use Rattle.shared_moves.specs.Moves.{HasRun}
+use Rattle.shared_moves.proofs.PassRuns.{some_logged}
 use Rattle.shared_moves.proofs.shared.Shared.run.Goals as goal
 
-pub walk-walked-requires-clause-own : goal.walk-walked-requires-clause-own
-walk-walked-requires-clause-own g c κs within =
-    subst (λ (t : TableView _). IsPassOf (fixed_in g.A.Action.meaning t) (length t.rooms) t.table (plain_pass c.pass.inside.hand)) (sym c.self.view_is)
-    (subst (λ (p : PassView). IsPassOf (fixed_in g.A.Action.meaning c.args.self.now) (length c.args.self.now.rooms) c.args.self.now.table (plain_pass p)) (sym c.pass.view_is)
-    (hand_own (fixed_in g.A.Action.meaning c.args.self.now) (length c.args.self.now.rooms) c.args.self.now.table c.args.pass.now c.requires.own c.requires.free))
-
-pub walk-walked-requires-clause-room : goal.walk-walked-requires-clause-room
-walk-walked-requires-clause-room g c κs within =
-    subst (λ (t : TableView _). 64 + length (fixed_in g.A.Action.meaning t).start.ids ≤ c.pass.inside.near.room) (sym c.self.view_is)
-    (near_room (fixed_in g.A.Action.meaning c.args.self.now) (length c.args.self.now.rooms) c.args.self.now.table c.args.pass.now c.pass.inside.log c.pass.inside.refusals c.pass.inside.near c.requires.own
-    (subst (λ (p : PassView). IsKeptBeside p c.pass.inside.log c.pass.inside.refusals c.pass.inside.near) c.pass.view_is c.pass.invariant))
-
-pub unwrap-entry-requires : goal.unwrap-entry-requires
-unwrap-entry-requires g c = waits_on c.walk-walked.result c.walk-walked.ensures.at_once
+pub last_entry-requires : goal.last_entry-requires
+last_entry-requires g c =
+    let ran = c.run_into_log.ensures in
+    subst (λ (log : List Item). 0 < length log) (sym ran.run.log) (some_logged c.args.pass.now.view.log (item_of (command_of c.args.cmd) ran.entry))
 
 pub returns : goal.returns
 returns g c =
-    let new = c.walk-walked.new.hand in
-    let moved : HasMoved (command_of c.args.cmd) c.unwrap-entry.result c.pass.inside.hand new =
-    subst (λ (r : Result _ _). IfOk r (λ (e : Entry). HasMoved (command_of c.args.cmd) e c.pass.inside.hand new)) c.unwrap-entry.ensures c.walk-walked.ensures.moved in
-    pass_ran (fixed_in g.A.Action.meaning c.args.self.now) (length c.args.self.now.rooms) c.args.self.now.table c.args.pass.now c.requires.own c.requires.free new (command_of c.args.cmd) c.unwrap-entry.result
-    (subst (λ (p : PassView). HasMoved (command_of c.args.cmd) c.unwrap-entry.result p new) c.pass.view_is moved)
-    (subst (λ (t : TableView _). IsPassOf (fixed_in g.A.Action.meaning t) (length t.rooms) t.table new) c.self.view_is c.walk-walked.ensures.own.pass)
+    let ran = c.run_into_log.ensures in
+    subst (λ (e : Entry). HasRun (fixed_in g.A.Action.meaning c.args.self.now) (length c.args.self.now.rooms) c.args.self.now.table c.args.pass.now c.run_into_log.new.pass (command_of c.args.cmd) e)
+    (sym (c.last_entry.ensures c.args.pass.now.view.log (command_of c.args.cmd) ran.entry ran.run.log)) ran.run
