@@ -1,4 +1,4 @@
-use Rattle.std.proofs.Common.{◌≡◌, ◌<◌, ◌++◌, ◌∷◌, ℕ, List, [], length, take, refl, sym, ap, ◌∙◌, arith, is_some, Option}
+use Rattle.std.proofs.Common.{ℕ, take, refl, sym, ap, ◌∙◌, arith, is_some, Option}
 use Rattle.std.proofs.lemmas.List.{length-set}
 use Rattle.entity_recs.specs.Commands.{command_of}
 use Rattle.core_steps.specs.Cells.{cell_of, cell_index}
