@@ -6,23 +6,29 @@ ghost use Rattle.arena_engine.specs.Texts.{texts_of};
 
 use crate::feeding::Feeding;
 use crate::game::{Game, is_end};
+use crate::hiring::hire;
 use crate::played::Played;
 use crate::stop::Stop;
+use arena_actions::MapAction;
+use crew::play_with;
 use demo_lines::{DemoReader, Event};
 use edge_io::{Sink, Source};
+use move_phase::Runners;
 use playback::Host;
 use shared_moves::Gate;
+use std::mem;
 use std::sync::Wait;
 use std::thread::Threads;
 
 // The reader and the game are lent to the loop, under a contract that speaks of every start: a loop that borrows
 // several things anew in each turn is the dearest form for the check of lifetimes.
 /// Plays the events of a recording from this one on, of which the reader gives the later ones.
-fn play_events<R: Threads + Wait + Sync, S: Source, K: Sink, G: Gate>(
-    host: &Host<R, G>,
+fn play_events<'a, R: Threads + Wait + Sync, S: Source, K: Sink, G: Gate>(
+    host: &Host<R>,
+    runners: &mut Runners<'a, G>,
     feeding: Feeding,
     demo: &mut DemoReader,
-    game: &mut Game,
+    game: &mut Game<'a>,
     first: Event,
     source: &mut S,
     sink: &mut K,
@@ -35,7 +41,7 @@ fn play_events<R: Threads + Wait + Sync, S: Source, K: Sink, G: Gate>(
     let mut event = first;
     'events: loop {
         let is_last = is_end(&event);
-        game.take(host, feeding, event, sink)?;
+        game.take(host, runners, feeding, event, sink)?;
         if is_last {
             return Ok(());
         }
@@ -43,11 +49,42 @@ fn play_events<R: Threads + Wait + Sync, S: Source, K: Sink, G: Gate>(
     }
 }
 
+/// Plays the events from the first one on, with helpers that are started once around all of them.
+fn play_with_helpers<'a, R: Threads + Wait + Sync, S: Source, K: Sink, G: Gate>(
+    host: &Host<R>,
+    gate: &'a G,
+    feeding: Feeding,
+    demo: &mut DemoReader,
+    game: &mut Game<'a>,
+    first: Event,
+    source: &mut S,
+    sink: &mut K,
+) -> Result<(), Stop>
+    requires { MayGoOn S.Source K.Sink feeding host.now.workers source.old sink.old demo.old game.old first }
+    ensures plays { PlaysOn S.Source K.Sink feeding host.now.workers source.old source.new sink.old sink.new demo.old
+        game.old first game.new.last result }
+    ensures orders { MayHaveOrder feeding game.old.last.order → MayHaveOrder feeding game.new.last.order }
+{
+    let (mut runners, helpers) = hire(host, gate);
+    let mut first = first;
+    play_with(
+        host.rt,
+        helpers,
+        &mut || {
+            let first = mem::replace(&mut first, Event::End);
+            let ended = play_events(host, &mut runners, feeding, demo, game, first, source, sink);
+            runners.stop();
+            ended
+        },
+    )
+}
+
 /// Plays a recording from the source whose packets reach the server so, and writes its output to the sink, each frame
 /// before the next line is read. Beside how that ended it gives the journal and the order of arrival of the last frame
 /// that was run.
 pub fn play<R: Threads + Wait + Sync, S: Source, K: Sink, G: Gate>(
-    host: &Host<R, G>,
+    host: &Host<R>,
+    gate: &G,
     feeding: Feeding,
     source: &mut S,
     sink: &mut K,
@@ -65,10 +102,16 @@ pub fn play<R: Threads + Wait + Sync, S: Source, K: Sink, G: Gate>(
         Err(stop) => return Played::before_frames(stop.into()),
     };
     let map = demo.take_map().unwrap();
-    let mut game = match Game::new(host.alloc, map) {
+    let action = match MapAction::indexed(host.alloc, map) {
+        Ok(action) => action,
+        Err(error) => return Played::before_frames(error.into()),
+    };
+    let mut game = match Game::new(host.alloc, &action) {
         Ok(game) => game,
         Err(error) => return Played::before_frames(error.into()),
     };
-    let ended = play_events(host, feeding, &mut demo, &mut game, first, source, sink);
+    let ended = play_with_helpers(
+        host, gate, feeding, &mut demo, &mut game, first, source, sink,
+    );
     Played::with_game(game, ended)
 }

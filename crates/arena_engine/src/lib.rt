@@ -25,6 +25,7 @@ mod commands;
 mod event_loop;
 mod feeding;
 mod game;
+mod hiring;
 mod laws;
 mod numbers;
 mod perform;

@@ -1,17 +1,21 @@
-ghost use Rattle.std.specs.Prelude.{◌≡◌, ◌≤◌, None, [], IsOk, IsOkAnd};
+ghost use Rattle.std.specs.Prelude.{◌≡◌, ◌≤◌, None, [], length, IfOk, OnOk, IsOk, IsOkAnd};
 ghost use Rattle.std.specs.Io.KnownBytes.{Appends};
 ghost use Rattle.edge_io.specs.Writes.{AppendsPart};
-ghost use Rattle.match_play.specs.Matches.{IsMatch};
+ghost use Rattle.demo_make.specs.GeneratedMap.{generated_map};
+ghost use Rattle.match_play.specs.Games.{new_game};
+ghost use Rattle.match_play.specs.Matches.{IsMatch, HasEachJournal, match_totals, entries_of};
 ghost use Rattle.arena_engine.specs.declared.summary.TheConstants.{MOST_SUMMARY_BYTES};
 ghost use Rattle.arena_engine.specs.Endings.{Counts};
 ghost use Rattle.arena_engine.specs.Making.{IsOfWriting, IsBare, IsMatched};
 ghost use Rattle.arena_engine.specs.Summaries.{summary_text};
 
+use crate::hiring::hire;
 use crate::report::Report;
 use crate::status::Status;
 use crate::summary::push_summary;
+use crew::play_with;
 use edge_io::{LineBuf, Sink, write_whole};
-use match_play::{MatchGame, Totals, play_match};
+use match_play::{MatchGame, Totals, match_action, play_match};
 use playback::Host;
 use shared_moves::Gate;
 use std::alloc::AllocError;
@@ -52,10 +56,39 @@ fn sum_up<K: Sink>(
     }
 }
 
+/// Plays the match of this seed, with helpers that are started once around all of its frames.
+fn play_with_helpers<'a, R: Threads + Wait + Sync, G: Gate>(
+    host: &Host<R>,
+    gate: &'a G,
+    seed: u64,
+    players: u8,
+    frames: u32,
+    game: &mut MatchGame<'a>,
+) -> Result<Totals, AllocError>
+    requires range { IsMatch players frames }
+    requires fresh { game.old ≡ new_game generated_map }
+    ensures each { HasEachJournal seed players host.now.workers game.new }
+    ensures few { length game.new.journals ≤ frames }
+    ensures all { OnOk result (length game.new.journals ≡ frames) }
+    ensures totals { IfOk result (λ totals. totals ≡ match_totals seed players (entries_of game.new.journals)) }
+{
+    let (mut runners, helpers) = hire(host, gate);
+    play_with(
+        host.rt,
+        helpers,
+        &mut || {
+            let ended = play_match(host, &mut runners, seed, players, frames, game);
+            runners.stop();
+            ended
+        },
+    )
+}
+
 /// Plays the recording of this seed on these workers without writing it, and writes the line of its totals. The report
 /// has the journals of the frames that were run.
 pub fn play_and_sum<R: Threads + Wait + Sync, K: Sink, G: Gate>(
-    host: &Host<R, G>,
+    host: &Host<R>,
+    gate: &G,
     seed: u64,
     players: u8,
     frames: u32,
@@ -69,9 +102,12 @@ pub fn play_and_sum<R: Threads + Wait + Sync, K: Sink, G: Gate>(
     let Ok(mut line) = LineBuf::new(host.alloc) else {
         return Report::of_status_alone(host.alloc, Status::NoMemory);
     };
-    let Ok(mut game) = MatchGame::new(host.alloc) else {
+    let Ok(action) = match_action(host.alloc) else {
         return Report::of_status_alone(host.alloc, Status::NoMemory);
     };
-    let ended = play_match(host, seed, players, frames, &mut game);
+    let Ok(mut game) = MatchGame::new(host.alloc, &action) else {
+        return Report::of_status_alone(host.alloc, Status::NoMemory);
+    };
+    let ended = play_with_helpers(host, gate, seed, players, frames, &mut game);
     sum_up(ended, game, &mut line, sink)
 }
