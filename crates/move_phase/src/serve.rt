@@ -9,6 +9,8 @@ ghost use Rattle.move_phase.specs.Running.{AreOfLive, MayServe, HasServed};
 use entity_recs::{Action, Cmd};
 use shared_moves::{Gate, Pass, PassList, Shared};
 use std::sync::Wait;
+use std::thread;
+use std::thread::Threads;
 
 /// Runs the move where it is of a slot that the pass serves.
 fn serve<R: Wait, A: Action, G: Gate>(
@@ -58,7 +60,7 @@ fn run_pass<R: Wait, A: Action, G: Gate>(
 }
 
 /// Runs the moves by all passes, each in a thread of its own where one can be made.
-pub(crate) fn run_passes<R: Wait, A: Action, G: Gate>(
+pub(crate) fn run_passes<R: Threads + Wait + Sync, A: Action, G: Gate>(
     rt: &R,
     shared: &Shared<A>,
     passes: &mut PassList<A>,
@@ -77,7 +79,20 @@ pub(crate) fn run_passes<R: Wait, A: Action, G: Gate>(
         (slice_index_or passes.old.items i d) (slice_index_or passes.new.items i d)
         (served_by (length shared.now.rooms) (slice_index_or passes.old.items i d).number (map command_of moves.now)) }
 {
-    for pass in passes.as_mut_slice() {
-        run_pass(rt, shared, pass, moves, workers, gate);
-    }
+    thread::for_each_mut(
+        rt,
+        passes.as_mut_slice(),
+        usize::from(workers),
+        &|_: usize, pass: &mut Pass<A>|
+            requires { ((workers ≡ length shared.now.rooms) × (0 < workers))
+                × MayServe (fixed_in A.meaning shared.now) (length shared.now.rooms)
+                shared.now.table (map command_of moves.now) pass.now
+                × AreOfLive (fixed_in A.meaning shared.now) (map command_of moves.now) }
+            ensures { HasServed (fixed_in A.meaning shared.entry.now)
+                (length shared.entry.now.rooms) shared.entry.now.table pass.entry.now pass.exit.now
+                (served_by (length shared.entry.now.rooms) pass.entry.now.number (map command_of moves.entry.now)) }
+        {
+            run_pass(rt, shared, pass, moves, workers, gate);
+        },
+    );
 }

@@ -16,6 +16,7 @@ use move_journal::LogList;
 use shared_moves::{Gate, PassList, Shared};
 use std::alloc::{AllocError, Global};
 use std::sync::Wait;
+use std::thread::Threads;
 use world_tree::World;
 
 /// Shares the world among so many workers, each with a pass that has room for just the moves that it serves. The only
@@ -43,7 +44,7 @@ pub(crate) fn share<'a, A: Action>(
 
 /// Runs the moves on a world that was shared for them, and gives what was done to the world and to the empty list of
 /// logs. It takes no memory.
-pub(crate) fn run_on_workers<R: Wait, A: Action, G: Gate>(
+pub(crate) fn run_on_workers<R: Threads + Wait + Sync, A: Action, G: Gate>(
     rt: &R,
     shared: Shared<A>,
     mut passes: PassList<A>,

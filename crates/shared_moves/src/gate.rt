@@ -7,12 +7,6 @@ use entity_recs::Entry;
 pub trait Gate: Sync {
     /// The move is at this moment. It goes on once this returns.
     fn at(&self, moment: &Moment);
-
-    /// Whether each pass must have a thread of its own where one can be made, however few moves a frame has: so for a
-    /// test that holds one.
-    fn needs_threads(&self) -> bool {
-        false
-    }
 }
 
 /// Calls the gate at this moment, and gives the moment's entry back, if it has one.
