@@ -49,14 +49,36 @@ fn play_events<'a, R: Threads + Wait + Sync, S: Source, K: Sink, G: Gate>(
     }
 }
 
-/// Plays the events from the first one on, with helpers that are started once around all of them.
+/// Plays the events from this one on, and then sends the helpers away.
+fn play_and_stop<'a, R: Threads + Wait + Sync, S: Source, K: Sink, G: Gate>(
+    host: &Host<R>,
+    runners: &mut Runners<'a, G>,
+    feeding: Feeding,
+    demo: &mut DemoReader,
+    game: &mut Game<'a>,
+    first: &mut Event,
+    source: &mut S,
+    sink: &mut K,
+) -> Result<(), Stop>
+    requires { MayGoOn S.Source K.Sink feeding host.now.workers source.old sink.old demo.old game.old first.old }
+    ensures plays { PlaysOn S.Source K.Sink feeding host.now.workers source.old source.new sink.old sink.new demo.old
+        game.old first.old game.new.last result }
+    ensures orders { MayHaveOrder feeding game.old.last.order → MayHaveOrder feeding game.new.last.order }
+{
+    let first = mem::replace(first, Event::End);
+    let ended = play_events(host, runners, feeding, demo, game, first, source, sink);
+    runners.stop();
+    ended
+}
+
+/// Plays the events from this one on, with helpers that are started once around all of them.
 fn play_with_helpers<'a, R: Threads + Wait + Sync, S: Source, K: Sink, G: Gate>(
     host: &Host<R>,
     gate: &'a G,
     feeding: Feeding,
     demo: &mut DemoReader,
     game: &mut Game<'a>,
-    first: Event,
+    mut first: Event,
     source: &mut S,
     sink: &mut K,
 ) -> Result<(), Stop>
@@ -66,15 +88,20 @@ fn play_with_helpers<'a, R: Threads + Wait + Sync, S: Source, K: Sink, G: Gate>(
     ensures orders { MayHaveOrder feeding game.old.last.order → MayHaveOrder feeding game.new.last.order }
 {
     let (mut runners, helpers) = hire(host, gate);
-    let mut first = first;
     play_with(
         host.rt,
         helpers,
         &mut || {
-            let first = mem::replace(&mut first, Event::End);
-            let ended = play_events(host, &mut runners, feeding, demo, game, first, source, sink);
-            runners.stop();
-            ended
+            play_and_stop(
+                host,
+                &mut runners,
+                feeding,
+                demo,
+                game,
+                &mut first,
+                source,
+                sink,
+            )
         },
     )
 }

@@ -1,12 +1,12 @@
-ghost use Rattle.std.specs.Prelude.{◌≡◌, ◌≤◌, None, [], length, IfOk, OnOk, IsOk, IsOkAnd};
+ghost use Rattle.std.specs.Prelude.{◌≡◌, ◌≤◌, None, [], IsOk, IsOkAnd};
 ghost use Rattle.std.specs.Io.KnownBytes.{Appends};
 ghost use Rattle.edge_io.specs.Writes.{AppendsPart};
 ghost use Rattle.demo_make.specs.GeneratedMap.{generated_map};
 ghost use Rattle.match_play.specs.Games.{new_game};
-ghost use Rattle.match_play.specs.Matches.{IsMatch, HasEachJournal, match_totals, entries_of};
+ghost use Rattle.match_play.specs.Matches.{IsMatch};
 ghost use Rattle.arena_engine.specs.declared.summary.TheConstants.{MOST_SUMMARY_BYTES};
 ghost use Rattle.arena_engine.specs.Endings.{Counts};
-ghost use Rattle.arena_engine.specs.Making.{IsOfWriting, IsBare, IsMatched};
+ghost use Rattle.arena_engine.specs.Making.{IsOfWriting, IsBare, IsMatched, PlaysMatch};
 ghost use Rattle.arena_engine.specs.Summaries.{summary_text};
 
 use crate::hiring::hire;
@@ -16,6 +16,7 @@ use crate::summary::push_summary;
 use crew::play_with;
 use edge_io::{LineBuf, Sink, write_whole};
 use match_play::{MatchGame, Totals, match_action, play_match};
+use move_phase::Runners;
 use playback::Host;
 use shared_moves::Gate;
 use std::alloc::AllocError;
@@ -56,6 +57,24 @@ fn sum_up<K: Sink>(
     }
 }
 
+/// Plays the match of this seed, and then sends the helpers away.
+fn play_and_stop<'a, R: Threads + Wait + Sync, G: Gate>(
+    host: &Host<R>,
+    runners: &mut Runners<'a, G>,
+    seed: u64,
+    players: u8,
+    frames: u32,
+    game: &mut MatchGame<'a>,
+) -> Result<Totals, AllocError>
+    requires range { IsMatch players frames }
+    requires fresh { game.old ≡ new_game generated_map }
+    ensures { PlaysMatch seed players frames host.now.workers game.new result }
+{
+    let ended = play_match(host, runners, seed, players, frames, game);
+    runners.stop();
+    ended
+}
+
 /// Plays the match of this seed, with helpers that are started once around all of its frames.
 fn play_with_helpers<'a, R: Threads + Wait + Sync, G: Gate>(
     host: &Host<R>,
@@ -67,20 +86,13 @@ fn play_with_helpers<'a, R: Threads + Wait + Sync, G: Gate>(
 ) -> Result<Totals, AllocError>
     requires range { IsMatch players frames }
     requires fresh { game.old ≡ new_game generated_map }
-    ensures each { HasEachJournal seed players host.now.workers game.new }
-    ensures few { length game.new.journals ≤ frames }
-    ensures all { OnOk result (length game.new.journals ≡ frames) }
-    ensures totals { IfOk result (λ totals. totals ≡ match_totals seed players (entries_of game.new.journals)) }
+    ensures { PlaysMatch seed players frames host.now.workers game.new result }
 {
     let (mut runners, helpers) = hire(host, gate);
     play_with(
         host.rt,
         helpers,
-        &mut || {
-            let ended = play_match(host, &mut runners, seed, players, frames, game);
-            runners.stop();
-            ended
-        },
+        &mut || { play_and_stop(host, &mut runners, seed, players, frames, game) },
     )
 }
 

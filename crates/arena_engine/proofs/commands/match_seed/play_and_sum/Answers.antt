@@ -8,9 +8,9 @@ use Rattle.arena_engine.proofs.commands.match_seed.play_and_sum.Goals as goal
 pub returns-clause-matched : goal.returns-clause-matched
 returns-clause-matched g c =
     let done : c.sum_up.result.status ≡ 0 → Appends (g.K.Sink.taken c.args.sink.now) (g.K.Sink.taken c.sum_up.new.sink) (line_of_match c.args.seed c.args.players c.sum_up.result.all) =
-    λ is. line_is c.play_match-ended.result c.args.seed c.args.players c.play_match-ended.new.game.journals c.sum_up.result.all (Appends (g.K.Sink.taken c.args.sink.now) (g.K.Sink.taken c.sum_up.new.sink)) c.sum_up.ensures.all c.play_match-ended.ensures.totals (c.sum_up.ensures.done is) in
+    λ is. line_is c.play_with_helpers-ended.result c.args.seed c.args.players c.play_with_helpers-ended.new.game.journals c.sum_up.result.all (Appends (g.K.Sink.taken c.args.sink.now) (g.K.Sink.taken c.sum_up.new.sink)) c.sum_up.ensures.all c.play_with_helpers-ended.ensures.totals (c.sum_up.ensures.done is) in
     let cut : c.sum_up.result.status ≡ 4 → AppendsPart (g.K.Sink.taken c.args.sink.now) (g.K.Sink.taken c.sum_up.new.sink) (line_of_match c.args.seed c.args.players c.sum_up.result.all) =
-    λ is. line_is c.play_match-ended.result c.args.seed c.args.players c.play_match-ended.new.game.journals c.sum_up.result.all (AppendsPart (g.K.Sink.taken c.args.sink.now) (g.K.Sink.taken c.sum_up.new.sink)) c.sum_up.ensures.all c.play_match-ended.ensures.totals (c.sum_up.ensures.write_fault is) in
+    λ is. line_is c.play_with_helpers-ended.result c.args.seed c.args.players c.play_with_helpers-ended.new.game.journals c.sum_up.result.all (AppendsPart (g.K.Sink.taken c.args.sink.now) (g.K.Sink.taken c.sum_up.new.sink)) c.sum_up.ensures.all c.play_with_helpers-ended.ensures.totals (c.sum_up.ensures.write_fault is) in
     let frames : ArePlayed c.args.seed c.args.players c.args.frames c.args.host.now.workers c.sum_up.result.status c.sum_up.result.all =
-    are_played c.play_match-ended.result c.args.seed c.args.players c.args.frames c.args.host.now.workers c.sum_up.result.status c.play_match-ended.new.game c.sum_up.result.all c.sum_up.ensures.all c.play_match-ended.ensures.each c.play_match-ended.ensures.few c.play_match-ended.ensures.all c.sum_up.ensures.whole in
+    are_played c.play_with_helpers-ended.result c.args.seed c.args.players c.args.frames c.args.host.now.workers c.sum_up.result.status c.play_with_helpers-ended.new.game c.sum_up.result.all c.sum_up.ensures.all c.play_with_helpers-ended.ensures.each c.play_with_helpers-ended.ensures.few c.play_with_helpers-ended.ensures.all c.sum_up.ensures.whole in
     search (rules, done, cut, frames)
