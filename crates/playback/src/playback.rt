@@ -177,7 +177,8 @@ impl<'a> Playback<'a> {
         )?;
         self.is_open = false;
         mem::swap(&mut self.arrivals, &mut self.closed);
-        Ok(Some(mem::replace(&mut self.out.journal, next)))
+        let out = &mut self.out;
+        Ok(Some(mem::replace(&mut out.journal, next)))
     }
 
     /// Opens a frame, after the one before it is closed.
