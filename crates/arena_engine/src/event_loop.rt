@@ -72,7 +72,7 @@ fn play_and_stop<'a, R: Threads + Wait + Sync, S: Source, K: Sink, G: Gate>(
 }
 
 /// Plays the events from this one on, with helpers that are started once around all of them.
-fn play_with_helpers<'a, R: Threads + Wait + Sync, S: Source, K: Sink, G: Gate>(
+fn play_with_helpers<'a, R: Threads + Wait + Sync, S: Source, K: Sink, G: Gate + Sync>(
     host: &Host<R>,
     gate: &'a G,
     feeding: Feeding,
@@ -109,7 +109,7 @@ fn play_with_helpers<'a, R: Threads + Wait + Sync, S: Source, K: Sink, G: Gate>(
 /// Plays a recording from the source whose packets reach the server so, and writes its output to the sink, each frame
 /// before the next line is read. Beside how that ended it gives the journal and the order of arrival of the last frame
 /// that was run.
-pub fn play<R: Threads + Wait + Sync, S: Source, K: Sink, G: Gate>(
+pub fn play<R: Threads + Wait + Sync, S: Source, K: Sink, G: Gate + Sync>(
     host: &Host<R>,
     gate: &G,
     feeding: Feeding,

@@ -31,7 +31,7 @@ fn host_of<R: Threads + Wait + Sync>(rt: &R, alloc: Global, workers: u8) -> Host
 }
 
 /// Does what a command asks for, with status 2 where there is none.
-pub fn perform<R: Threads + Wait + Sync, S: Source, K: Sink, G: Gate>(
+pub fn perform<R: Threads + Wait + Sync, S: Source, K: Sink, G: Gate + Sync>(
     rt: &R,
     alloc: Global,
     command: Option<Command>,

@@ -76,7 +76,7 @@ fn play_and_stop<'a, R: Threads + Wait + Sync, G: Gate>(
 }
 
 /// Plays the match of this seed, with helpers that are started once around all of its frames.
-fn play_with_helpers<'a, R: Threads + Wait + Sync, G: Gate>(
+fn play_with_helpers<'a, R: Threads + Wait + Sync, G: Gate + Sync>(
     host: &Host<R>,
     gate: &'a G,
     seed: u64,
@@ -98,7 +98,7 @@ fn play_with_helpers<'a, R: Threads + Wait + Sync, G: Gate>(
 
 /// Plays the recording of this seed on these workers without writing it, and writes the line of its totals. The report
 /// has the journals of the frames that were run.
-pub fn play_and_sum<R: Threads + Wait + Sync, K: Sink, G: Gate>(
+pub fn play_and_sum<R: Threads + Wait + Sync, K: Sink, G: Gate + Sync>(
     host: &Host<R>,
     gate: &G,
     seed: u64,

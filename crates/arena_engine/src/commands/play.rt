@@ -31,7 +31,7 @@ fn report_of(alloc: Global, played: Played) -> Report
 
 /// Plays a recording from the source on these workers, and writes its output to the sink. The report has how that
 /// ended.
-pub fn play_recording<R: Threads + Wait + Sync, S: Source, K: Sink, G: Gate>(
+pub fn play_recording<R: Threads + Wait + Sync, S: Source, K: Sink, G: Gate + Sync>(
     host: &Host<R>,
     gate: &G,
     source: &mut S,
@@ -47,7 +47,7 @@ pub fn play_recording<R: Threads + Wait + Sync, S: Source, K: Sink, G: Gate>(
 }
 
 /// Plays a recording whose packets client threads send, in the same way.
-pub fn feed_recording<R: Threads + Wait + Sync, S: Source, K: Sink, G: Gate>(
+pub fn feed_recording<R: Threads + Wait + Sync, S: Source, K: Sink, G: Gate + Sync>(
     host: &Host<R>,
     gate: &G,
     source: &mut S,
