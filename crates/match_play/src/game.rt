@@ -72,8 +72,8 @@ impl<'a> MatchGame<'a> {
 
     /// The journals of the frames that were run, in their order.
     pub fn into_journals(self) -> JournalList
-        ensures all { result ≡ self.journals }
-        ensures each { length result ≡ self.course.server.frames }
+        ensures all { result ≡ self.entry.journals }
+        ensures each { length result ≡ self.entry.course.server.frames }
     {
         let MatchGame {
             playback: _playback,
