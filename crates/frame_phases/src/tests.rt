@@ -112,8 +112,15 @@ fn map_of(alloc: Global, one: &MapLine, other: &MapLine) -> Result<ArenaMap, Map
 fn action_of(alloc: Global, map: Result<ArenaMap, MapRefusal>) -> Result<MapAction, Fail>
     ensures { IfOk result IsOfItsMap }
 {
-    let map = map.map_err(|_| "an action")?;
-    Ok(MapAction::indexed(alloc, map).map_err(|_| "an action")?)
+    let map = map.map_err(|_| "a server")?;
+    Ok(MapAction::indexed(alloc, map).map_err(|_| "a server")?)
+}
+
+/// A server of this action's map.
+fn server_of(alloc: Global, action: &MapAction) -> Result<Server<'_>, Fail>
+    requires { IsOfItsMap action.now }
+{
+    Ok(Server::new(alloc, action).map_err(|_| "a server")?)
 }
 
 /// The action of the arena with these two things.
@@ -209,7 +216,7 @@ fn expect_return(
 #[test]
 fn a_taken_item_returns_after_its_delay(rt: HostRuntime) -> Result<(), Fail> {
     let action = action(rt.alloc(), &spawn(), &gem())?;
-    let mut server = Server::new(rt.alloc(), &action)?;
+    let mut server = server_of(rt.alloc(), &action)?;
     expect_return(&rt, &mut server)
 }
 
@@ -235,7 +242,7 @@ fn expect_leap(
 #[test]
 fn a_teleporter_moves_a_player(rt: HostRuntime) -> Result<(), Fail> {
     let action = action(rt.alloc(), &spawn(), &teleporter())?;
-    let mut server = Server::new(rt.alloc(), &action)?;
+    let mut server = server_of(rt.alloc(), &action)?;
     expect_leap(&rt, &mut server)
 }
 
@@ -298,6 +305,6 @@ fn expect_shown_once(
 #[test]
 fn a_player_that_leaves_is_shown_once_more(rt: HostRuntime) -> Result<(), Fail> {
     let action = action(rt.alloc(), &spawn(), &gem())?;
-    let mut server = Server::new(rt.alloc(), &action)?;
+    let mut server = server_of(rt.alloc(), &action)?;
     expect_shown_once(&rt, &mut server)
 }

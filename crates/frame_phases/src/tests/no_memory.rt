@@ -2,7 +2,7 @@ ghost use Rattle.std.specs.Prelude.{◌≡◌, true};
 ghost use Rattle.arena_map.specs.MapLines.{IsWithinLimits, is_added};
 
 use super::oracle::{Move, arrivals_of, play_on};
-use super::{action_of, at, expect_no_replies, map_of};
+use super::{action_of, at, expect_no_replies, map_of, server_of};
 use crate::{FrameOut, Server};
 use arena_map::{ArenaMap, MapLine, MapRefusal};
 use entity_recs::{Entry, Kind};
@@ -169,7 +169,7 @@ fn expect_frame(
 #[test]
 fn a_frame_refused_for_want_of_memory_is_run_again(rt: HostRuntime) -> Result<(), Fail> {
     let action = action_of(rt.alloc(), item_map(rt.alloc()))?;
-    let mut server = Server::new(rt.alloc(), &action)?;
+    let mut server = server_of(rt.alloc(), &action)?;
     expect_frame(&rt, &mut server, true)
 }
 
@@ -177,6 +177,6 @@ fn a_frame_refused_for_want_of_memory_is_run_again(rt: HostRuntime) -> Result<()
 #[test]
 fn a_frame_with_memory_is_played(rt: HostRuntime) -> Result<(), Fail> {
     let action = action_of(rt.alloc(), item_map(rt.alloc()))?;
-    let mut server = Server::new(rt.alloc(), &action)?;
+    let mut server = server_of(rt.alloc(), &action)?;
     expect_frame(&rt, &mut server, false)
 }
