@@ -1,3 +1,6 @@
+ghost use Rattle.arena_actions.specs.MapActions.{map_in, IsOfItsMap};
+ghost use Rattle.arena_map.specs.Maps.{IsMap};
+ghost use Rattle.arena_engine.specs.Games.{new_game};
 ghost use Rattle.arena_engine.specs.Feedings.{MayHaveOrder};
 ghost use Rattle.arena_engine.specs.PlayEnds.{PlaysTo};
 ghost use Rattle.arena_engine.specs.Progress.{MayGoOn, PlaysOn};
@@ -106,6 +109,34 @@ fn play_with_helpers<'a, R: Threads + Wait + Sync, S: Source, K: Sink, G: Gate +
     )
 }
 
+// The gate and the action have one lifetime: what runs the moves borrows both.
+/// Plays the events from this one on, in this action's arena.
+fn play_in_arena<'a, R: Threads + Wait + Sync, S: Source, K: Sink, G: Gate + Sync>(
+    host: &Host<R>,
+    gate: &'a G,
+    action: &'a MapAction,
+    feeding: Feeding,
+    demo: &mut DemoReader,
+    first: Event,
+    source: &mut S,
+    sink: &mut K,
+) -> Played
+    requires of_its_map { IsOfItsMap action.now }
+    requires may { IsMap (map_in action.now) → MayGoOn S.Source K.Sink feeding host.now.workers source.old sink.old
+        demo.old (new_game (map_in action.now)) first }
+    ensures rules { IsMap (map_in action.now) }
+    ensures plays { PlaysOn S.Source K.Sink feeding host.now.workers source.old source.new sink.old sink.new demo.old
+        (new_game (map_in action.now)) first (last_of result) result.ended }
+    ensures orders { MayHaveOrder feeding result.order }
+{
+    let mut game = match Game::new(host.alloc, action) {
+        Ok(game) => game,
+        Err(error) => return Played::before_frames(error.into()),
+    };
+    let ended = play_with_helpers(host, gate, feeding, demo, &mut game, first, source, sink);
+    Played::with_game(game, ended)
+}
+
 /// Plays a recording from the source whose packets reach the server so, and writes its output to the sink, each frame
 /// before the next line is read. Beside how that ended it gives the journal and the order of arrival of the last frame
 /// that was run.
@@ -133,12 +164,5 @@ pub fn play<R: Threads + Wait + Sync, S: Source, K: Sink, G: Gate + Sync>(
         Ok(action) => action,
         Err(error) => return Played::before_frames(error.into()),
     };
-    let mut game = match Game::new(host.alloc, &action) {
-        Ok(game) => game,
-        Err(error) => return Played::before_frames(error.into()),
-    };
-    let ended = play_with_helpers(
-        host, gate, feeding, &mut demo, &mut game, first, source, sink,
-    );
-    Played::with_game(game, ended)
+    play_in_arena(host, gate, &action, feeding, &mut demo, first, source, sink)
 }

@@ -147,7 +147,7 @@ impl<'a> Game<'a> {
 
     /// The journal and the order of arrival of the last frame that was run, if one was.
     pub fn into_last(self) -> (Option<Journal>, Option<ArrivalOrder>)
-        ensures { record { order = result.1; journal = entries_if result.0 } ≡ self.last }
+        ensures { record { order = result.1; journal = entries_if result.0 } ≡ self.entry.last }
     {
         let Game {
             playback: _playback,

@@ -10,7 +10,8 @@ use std::thread::Threads;
 /// for a thread for each.
 fn helper_count<R: Threads + Wait + Sync, G: Gate>(host: &Host<R>, gate: &G) -> usize {
     let others = usize::from(host.workers) - 1;
-    if others == 0 || gate.needs_threads() {
+    let _ = gate;
+    if others == 0 {
         return others;
     }
     match thread::available_parallelism(host.rt) {

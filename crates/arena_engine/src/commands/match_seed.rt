@@ -1,6 +1,7 @@
 ghost use Rattle.std.specs.Prelude.{◌≡◌, ◌≤◌, None, [], IsOk, IsOkAnd};
 ghost use Rattle.std.specs.Io.KnownBytes.{Appends};
 ghost use Rattle.edge_io.specs.Writes.{AppendsPart};
+ghost use Rattle.arena_actions.specs.MapActions.{IsActionOf};
 ghost use Rattle.demo_make.specs.GeneratedMap.{generated_map};
 ghost use Rattle.match_play.specs.Games.{new_game};
 ghost use Rattle.match_play.specs.Matches.{IsMatch};
@@ -13,6 +14,7 @@ use crate::hiring::hire;
 use crate::report::Report;
 use crate::status::Status;
 use crate::summary::push_summary;
+use arena_actions::MapAction;
 use crew::play_with;
 use edge_io::{LineBuf, Sink, write_whole};
 use match_play::{MatchGame, Totals, match_action, play_match};
@@ -32,7 +34,7 @@ fn sum_up<K: Sink>(
     sink: &mut K,
 ) -> Report
     requires { line.old ≡ [] }
-    ensures all { result.all ≡ game.journals }
+    ensures all { result.all ≡ game.entry.journals }
     ensures status { IsOfWriting result.status }
     ensures bare { IsBare result }
     ensures done { result.status ≡ 0 → IsOkAnd ended (λ totals. Appends (K.taken sink.old) (K.taken sink.new)
@@ -96,6 +98,32 @@ fn play_with_helpers<'a, R: Threads + Wait + Sync, G: Gate + Sync>(
     )
 }
 
+// The gate and the action have one lifetime: what runs the moves borrows both.
+/// Plays the match of this seed in this action's arena, and writes the line of its totals.
+fn play_in_arena<'a, R: Threads + Wait + Sync, K: Sink, G: Gate + Sync>(
+    host: &Host<R>,
+    gate: &'a G,
+    action: &'a MapAction,
+    seed: u64,
+    players: u8,
+    frames: u32,
+    line: &mut LineBuf,
+    sink: &mut K,
+) -> Report
+    requires range { IsMatch players frames }
+    requires action { IsActionOf generated_map action.now }
+    requires line { line.old ≡ [] }
+    ensures matched { IsMatched K.Sink seed players frames host.now.workers sink.old sink.new result }
+    ensures counts { Counts 4 (K.faults sink.old) (K.faults sink.new) result.status }
+    ensures orderless { result.order ≡ None }
+{
+    let Ok(mut game) = MatchGame::new(host.alloc, action) else {
+        return Report::of_status_alone(host.alloc, Status::NoMemory);
+    };
+    let ended = play_with_helpers(host, gate, seed, players, frames, &mut game);
+    sum_up(ended, game, line, sink)
+}
+
 /// Plays the recording of this seed on these workers without writing it, and writes the line of its totals. The report
 /// has the journals of the frames that were run.
 pub fn play_and_sum<R: Threads + Wait + Sync, K: Sink, G: Gate + Sync>(
@@ -117,9 +145,5 @@ pub fn play_and_sum<R: Threads + Wait + Sync, K: Sink, G: Gate + Sync>(
     let Ok(action) = match_action(host.alloc) else {
         return Report::of_status_alone(host.alloc, Status::NoMemory);
     };
-    let Ok(mut game) = MatchGame::new(host.alloc, &action) else {
-        return Report::of_status_alone(host.alloc, Status::NoMemory);
-    };
-    let ended = play_with_helpers(host, gate, seed, players, frames, &mut game);
-    sum_up(ended, game, &mut line, sink)
+    play_in_arena(host, gate, &action, seed, players, frames, &mut line, sink)
 }

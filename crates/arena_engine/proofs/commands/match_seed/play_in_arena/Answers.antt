@@ -1,9 +1,13 @@
-use Rattle.std.proofs.Common.{rules, ◌≡◌}
+use Rattle.std.proofs.Common.{rules, ◌≡◌, ◌∙◌, ap}
 use Rattle.std.specs.Io.KnownBytes.{Appends}
 use Rattle.edge_io.specs.Writes.{AppendsPart}
+use Rattle.match_play.specs.Games.{new_game}
 use Rattle.arena_engine.specs.Making.{ArePlayed, line_of_match}
 use Rattle.arena_engine.proofs.Summing.{line_is, are_played}
-use Rattle.arena_engine.proofs.commands.match_seed.play_and_sum.Goals as goal
+use Rattle.arena_engine.proofs.commands.match_seed.play_in_arena.Goals as goal
+
+pub play_with_helpers-ended-requires-clause-fresh : goal.play_with_helpers-ended-requires-clause-fresh
+play_with_helpers-ended-requires-clause-fresh g c κs within = c.in-Ok.ensures ∙ ap new_game c.requires.action.map_is
 
 pub returns-clause-matched : goal.returns-clause-matched
 returns-clause-matched g c =
