@@ -17,7 +17,7 @@ use std::sync::Wait;
 use std::thread::Threads;
 
 /// Serves what the arguments ask for.
-fn serve_arguments<R: Threads + Wait + Sync, S: Source, K: Sink, G: Gate>(
+fn serve_arguments<R: Threads + Wait + Sync, S: Source, K: Sink, G: Gate + Sync>(
     rt: &R,
     alloc: Global,
     arguments: &[String],
@@ -41,7 +41,7 @@ fn serve_arguments<R: Threads + Wait + Sync, S: Source, K: Sink, G: Gate>(
 ///
 /// Where the system gives no arguments, nothing is read or written: the status is 5 where it had not enough memory for
 /// them, and else 2, since one isn't UTF-8.
-pub fn answer<R: Threads + Wait + Sync, S: Source, K: Sink, G: Gate>(
+pub fn answer<R: Threads + Wait + Sync, S: Source, K: Sink, G: Gate + Sync>(
     rt: &R,
     alloc: Global,
     arguments: io::Result<Args>,

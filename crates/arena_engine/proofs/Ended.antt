@@ -1,5 +1,5 @@
 -- How the playing of a recording ends, and how it goes on, seen from any start.
-use Rattle.std.proofs.Common.{◌≡◌, ℕ, ◌≤◌, true, false, List, [], ◌∷◌, length, Option, Some, None, Result, Ok, Err, ◌⊎◌, IfSome, refl, sym, ap, ◌∙◌, subst}
+use Rattle.std.proofs.Common.{◌≡◌, ℕ, ◌≤◌, true, false, List, [], ◌∷◌, length, Option, Some, None, Result, Ok, Err, ◌⊎◌, IfSome, refl, sym, ap, ◌∙◌, subst, arith}
 use Rattle.edge_io.specs.declared.source.Source as sources
 use Rattle.edge_io.specs.declared.sink.Sink as sinks
 use Rattle.edge_io.specs.Counts.{HasRisen}
@@ -221,3 +221,10 @@ ready_next s k feeding workers source sink demo g e may =
 pub open_reader : {S K : Type 0} (s : sources.Ghosts S) (k : sinks.Ghosts K) (feeding : Feeding) (workers : ℕ) (source : S) (sink : K) (demo : DemoReaderView) (g : GameView) (e : Event) → MayGoOn s k feeding workers source sink demo g e → is_end e ≡ false → IsOpen demo
 open_reader s k feeding workers source sink demo g e may going =
     running.reader_is_open feeding workers demo _ _ _ _ g e _ _ _ _ _ _ may.is_next.runs going
+
+-- memory was refused for the game
+pub no_memory_at : {S K : Type 0} (s : sources.Ghosts S) (k : sinks.Ghosts K) (feeding : Feeding) (workers : ℕ) (source0 source : S) (sink0 sink : K) (demo : DemoReaderView) (arena : MapView) (e : Event)
+    → IsNext s k feeding workers source0 source sink0 sink demo (new_game arena) e → (last : Last) → last ≡ no_last → PlaysTo s k (texts_of feeding workers) source0 source sink0 sink last (Err NoMemory)
+no_memory_at s k feeding workers source0 source sink0 sink demo arena e at last none =
+    let P : Last → Type 0 = λ l. PlaysTo s k (texts_of feeding workers) source0 source sink0 sink l (Err NoMemory) in
+    subst P (sym none) (game_stopped s k feeding workers source0 source sink0 sink demo (new_game arena) e at sink (new_game arena) NoMemory tt tt tt refl refl (omega (arith)))

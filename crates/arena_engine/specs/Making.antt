@@ -1,5 +1,5 @@
 -- What the commands that need no source answer and write.
-use Rattle.std.specs.Prelude.{◌≡◌, ℕ, ◌≤◌, ◌⊎◌, List, [], length, None, Result, Ok, Err}
+use Rattle.std.specs.Prelude.{◌≡◌, ℕ, ◌≤◌, ◌⊎◌, List, [], length, None, Result, Ok, Err, IfOk, OnOk}
 use Rattle.std.specs.Io.KnownBytes.{Appends}
 use Rattle.edge_io.specs.declared.sink.Sink as sinks
 use Rattle.edge_io.specs.Counts.{HasRisen}
@@ -9,7 +9,9 @@ use Rattle.demo_make.specs.declared.make_stop.MakeStop.TheVariants.{WriteFault, 
 use Rattle.demo_make.specs.GeneratedFrames.{generated_text}
 use Rattle.demo_make.specs.ResentFrames.{resent_text}
 use Rattle.move_journal.specs.Logs.{JournalView}
-use Rattle.match_play.specs.Matches.{AreRightSoFar, AreInOrderSoFar, match_totals, entries_of}
+use Rattle.match_play.specs.declared.totals.Totals.{Totals}
+use Rattle.match_play.specs.Games.{GameView}
+use Rattle.match_play.specs.Matches.{AreRightSoFar, AreInOrderSoFar, HasEachJournal, match_totals, entries_of}
 use Rattle.arena_engine.specs.declared.report.Report.{Report}
 use Rattle.arena_engine.specs.declared.summary.TheConstants.{MOST_SUMMARY_BYTES}
 use Rattle.arena_engine.specs.Endings.{IsOrMemory}
@@ -33,6 +35,13 @@ pub record ArePlayed (seed players frames workers status : ℕ) (all : List Jour
   pub order : workers ≡ 1 → AreInOrderSoFar seed players (entries_of all)
   pub few : length all ≤ frames
   pub whole : (status ≡ 5 → ⊥) → length all ≡ frames
+
+-- the match of this seed was played into this game, and its frames came to these totals
+pub record PlaysMatch {E : Type 0} (seed players frames workers : ℕ) (game : GameView) (ended : Result Totals E) : Type 0 where
+  pub each : HasEachJournal seed players workers game
+  pub few : length game.journals ≤ frames
+  pub all : OnOk ended (length game.journals ≡ frames)
+  pub totals : IfOk ended (λ totals. totals ≡ match_totals seed players (entries_of game.journals))
 
 -- the line of the match whose frames have these journals
 abbrev pub line_of_match : ℕ → ℕ → List JournalView → List ℕ

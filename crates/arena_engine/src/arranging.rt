@@ -7,7 +7,6 @@ use crate::feeding::Feeding;
 use demo_lines::Event;
 use feed_queue::ArrivalOrder;
 use playback::{Host, Playback};
-use shared_moves::Gate;
 use std::alloc::AllocError;
 use std::sync::Wait;
 use std::thread::Threads;
@@ -25,8 +24,8 @@ fn arrange(playback: &mut Playback, order: &Option<ArrivalOrder>) -> Result<(), 
 }
 
 /// Puts the packets of the frame that is open, if one is, into the order in which they arrive, and gives this order.
-fn arrange_open<R: Threads + Wait + Sync, G: Gate>(
-    host: &Host<R, G>,
+fn arrange_open<R: Threads + Wait + Sync>(
+    host: &Host<R>,
     feeding: Feeding,
     playback: &mut Playback,
 ) -> Result<Option<ArrivalOrder>, AllocError>
@@ -43,8 +42,8 @@ fn arrange_open<R: Threads + Wait + Sync, G: Gate>(
 
 /// Puts the packets of the frame that the event closes, if it closes one, into the order in which they arrive, and gives
 /// this order.
-pub fn arrange_for<R: Threads + Wait + Sync, G: Gate>(
-    host: &Host<R, G>,
+pub fn arrange_for<R: Threads + Wait + Sync>(
+    host: &Host<R>,
     feeding: Feeding,
     event: &Event,
     playback: &mut Playback,

@@ -5,7 +5,6 @@ ghost use Rattle.arena_engine.specs.Feedings.{AreSent};
 use feed_queue::{ArrivalOrder, NoFeedHold, gather};
 use packet_read::Arrival;
 use playback::Host;
-use shared_moves::Gate;
 use std::alloc::AllocError;
 use std::sync::Wait;
 use std::thread::Threads;
@@ -22,8 +21,8 @@ pub enum Feeding {
 }
 
 /// The order in which two client threads send the packets of a frame.
-fn order_from_threads<R: Threads + Wait + Sync, G: Gate>(
-    host: &Host<R, G>,
+fn order_from_threads<R: Threads + Wait + Sync>(
+    host: &Host<R>,
     sent: &[Arrival],
 ) -> Result<ArrivalOrder, AllocError>
     requires { length sent.now ≤ MOST_ARRIVALS }
@@ -39,9 +38,9 @@ impl Feeding {
 
     /// The order in which the packets of a frame arrive, as places in the order of the recording. Without one they arrive
     /// as the recording has them, and no lines of theirs are printed. The only error is that memory is refused.
-    pub fn order_of<R: Threads + Wait + Sync, G: Gate>(
+    pub fn order_of<R: Threads + Wait + Sync>(
         self,
-        host: &Host<R, G>,
+        host: &Host<R>,
         sent: &[Arrival],
     ) -> Result<Option<ArrivalOrder>, AllocError>
         requires { length sent.now ≤ MOST_ARRIVALS }

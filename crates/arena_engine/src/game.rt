@@ -6,11 +6,12 @@ use crate::arranging::arrange_for;
 use crate::feeding::Feeding;
 use crate::printing::print_event;
 use crate::stop::Stop;
-use arena_map::ArenaMap;
+use arena_actions::MapAction;
 use demo_lines::Event;
 use edge_io::Sink;
 use feed_queue::ArrivalOrder;
 use move_journal::Journal;
+use move_phase::Runners;
 use out_text::Printer;
 use playback::{Host, Playback};
 use shared_moves::Gate;
@@ -24,14 +25,14 @@ use std::thread::Threads;
 /// The game of a recording: its playback, the journal and the order of arrival of the last frame that was run, and what
 /// prints.
 #[derive(Drop)]
-pub struct Game {
-    playback: Playback,
+pub struct Game<'a> {
+    playback: Playback<'a>,
     last: Option<Journal>,
     order: Option<ArrivalOrder>,
     printer: Printer,
 }
 
-impl Model for Game {
+impl<'a> Model for Game<'a> {
     ghost use Rattle.std.specs.Prelude.{◌≡◌, []};
     ghost use Rattle.playback.specs.Playbacks.{entries_if};
     ghost use Rattle.arena_engine.specs.Games.{GameView};
@@ -80,23 +81,25 @@ fn newest_order(
     }
 }
 
-impl Game {
+impl<'a> Game<'a> {
     ghost use Rattle.std.specs.Prelude.{◌≡◌, ◌≤◌, [], length, IfOk, OnOk, IfErr};
     ghost use Rattle.arena_map.specs.Maps.{IsMap};
+    ghost use Rattle.arena_actions.specs.MapActions.{map_in, IsOfItsMap};
     ghost use Rattle.out_text.specs.OutLines.{text_of};
     ghost use Rattle.out_text.specs.Printers.{Prints, FailsIn};
     ghost use Rattle.playback.specs.Playbacks.{entries_if, IsReady};
     ghost use Rattle.arena_engine.specs.Games.{new_game, Plays};
     ghost use Rattle.arena_engine.specs.Stops.{OnWriteFault, OnMemory, IsGameStop};
 
-    /// A game in this arena, before the first event. It takes all memory but that for the packets, their order, the moves
-    /// and the journals of frames.
-    pub fn new(alloc: Global, map: ArenaMap) -> Result<Game, AllocError>
-        ensures game { IfOk result (λ game. game ≡ new_game map) }
-        ensures rules { OnOk result (IsMap map) }
+    /// A game in this action's arena, before the first event. It takes all memory but that for the packets, their order,
+    /// the moves and the journals of frames.
+    pub fn new(alloc: Global, action: &'a MapAction) -> Result<Game<'a>, AllocError>
+        requires { IsOfItsMap action.now }
+        ensures game { IfOk result (λ game. game ≡ new_game (map_in action.now)) }
+        ensures rules { IsMap (map_in action.now) }
     {
         Ok(Game {
-            playback: Playback::new(alloc, map)?,
+            playback: Playback::new(alloc, action)?,
             last: None,
             order: None,
             printer: Printer::new(alloc)?,
@@ -106,7 +109,8 @@ impl Game {
     /// Takes an event, and writes the lines that it closes. Memory is refused before anything is written only.
     pub fn take<R: Threads + Wait + Sync, K: Sink, G: Gate>(
         &mut self,
-        host: &Host<R, G>,
+        host: &Host<R>,
+        runners: &mut Runners<'a, G>,
         feeding: Feeding,
         event: Event,
         sink: &mut K,
@@ -126,7 +130,7 @@ impl Game {
     {
         let ends = is_end(&event);
         let order = arrange_for(host, feeding, &event, &mut self.playback)?;
-        let closed = self.playback.take(host, event)?;
+        let closed = self.playback.take(host, runners, event)?;
         let printed = print_event(
             &closed,
             &order,
@@ -143,7 +147,7 @@ impl Game {
 
     /// The journal and the order of arrival of the last frame that was run, if one was.
     pub fn into_last(self) -> (Option<Journal>, Option<ArrivalOrder>)
-        ensures { record { order = result.1; journal = entries_if result.0 } ≡ self.last }
+        ensures { record { order = result.1; journal = entries_if result.0 } ≡ self.entry.last }
     {
         let Game {
             playback: _playback,

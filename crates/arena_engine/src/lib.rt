@@ -25,6 +25,7 @@ mod commands;
 mod event_loop;
 mod feeding;
 mod game;
+mod hiring;
 mod laws;
 mod numbers;
 mod perform;
@@ -77,7 +78,7 @@ mod summary;
 /// The report has the journal of the last frame that was run from a recording, which is the last frame that was
 /// written, or the one whose text a failed write has cut. For `feed` it has the order of arrival of this frame. For
 /// `match` it has the journals of all frames that were run.
-pub fn serve<R: Threads + Wait + Sync, S: Source, K: Sink, G: Gate>(
+pub fn serve<R: Threads + Wait + Sync, S: Source, K: Sink, G: Gate + Sync>(
     rt: &R,
     alloc: Global,
     words: &[&str],

@@ -23,25 +23,15 @@ use std::sync::Wait;
 use std::thread::Threads;
 
 /// What the frames of a command are run with.
-fn host_of<'a, R: Threads + Wait + Sync, G: Gate>(
-    rt: &'a R,
-    alloc: Global,
-    workers: u8,
-    gate: &'a G,
-) -> Host<'a, R, G>
+fn host_of<R: Threads + Wait + Sync>(rt: &R, alloc: Global, workers: u8) -> Host<'_, R>
     requires { AreWorkers workers }
     ensures { result.workers ≡ workers }
 {
-    Host {
-        rt,
-        alloc,
-        workers,
-        gate,
-    }
+    Host { rt, alloc, workers }
 }
 
 /// Does what a command asks for, with status 2 where there is none.
-pub fn perform<R: Threads + Wait + Sync, S: Source, K: Sink, G: Gate>(
+pub fn perform<R: Threads + Wait + Sync, S: Source, K: Sink, G: Gate + Sync>(
     rt: &R,
     alloc: Global,
     command: Option<Command>,
@@ -60,12 +50,12 @@ pub fn perform<R: Threads + Wait + Sync, S: Source, K: Sink, G: Gate>(
     match command {
         None => Report::of_status_alone(alloc, Status::WordsRefused),
         Some(Command::Play { workers }) => {
-            let host = host_of(rt, alloc, workers, gate);
-            play_recording(&host, source, sink)
+            let host = host_of(rt, alloc, workers);
+            play_recording(&host, gate, source, sink)
         }
         Some(Command::Feed { workers }) => {
-            let host = host_of(rt, alloc, workers, gate);
-            feed_recording(&host, source, sink)
+            let host = host_of(rt, alloc, workers);
+            feed_recording(&host, gate, source, sink)
         }
         Some(
             Command::Make {
@@ -96,8 +86,8 @@ pub fn perform<R: Threads + Wait + Sync, S: Source, K: Sink, G: Gate>(
                 workers,
             },
         ) => {
-            let host = host_of(rt, alloc, workers, gate);
-            play_and_sum(&host, seed, players, frames, sink)
+            let host = host_of(rt, alloc, workers);
+            play_and_sum(&host, gate, seed, players, frames, sink)
         }
         Some(Command::Check) => check_transcript(alloc, source, sink),
         Some(Command::Audit) => audit_log(alloc, source, sink),

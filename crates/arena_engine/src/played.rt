@@ -34,7 +34,7 @@ impl Played {
     /// It ended so, with this game.
     pub fn with_game(game: Game, ended: Result<(), Stop>) -> Played
         ensures ended { result.ended ≡ ended }
-        ensures last { last_of result ≡ game.last }
+        ensures last { last_of result ≡ game.entry.last }
     {
         let (last, order) = game.into_last();
         Played { ended, last, order }

@@ -16,7 +16,7 @@ use crate::shows::show_players;
 use arena_actions::MapAction;
 use arena_map::ArenaMap;
 use client_ports::Received;
-use move_phase::StartedMoves;
+use move_phase::{Runners, StartedMoves};
 use packet_read::Arrival;
 use server_state::State;
 use shared_moves::Gate;
@@ -96,11 +96,11 @@ pub fn begin_frame<'a>(
 
 /// Finishes a frame that is begun: its moves, the replies, and the leaves. It takes no memory, and nothing can refuse
 /// it.
-pub fn finish_frame<R: Threads + Wait + Sync, G: Gate>(
+pub fn finish_frame<'a, R: Threads + Wait + Sync, G: Gate>(
     rt: &R,
     states: &mut States,
-    started: StartedMoves,
-    gate: &G,
+    started: StartedMoves<'a>,
+    runners: &mut Runners<'a, G>,
     out: &mut FrameOut,
 )
     requires begun { IsBegun started states.old.next.world
@@ -123,7 +123,7 @@ pub fn finish_frame<R: Threads + Wait + Sync, G: Gate>(
         rt,
         &mut states.next.world,
         out.received.moves(),
-        gate,
+        runners,
         &mut out.journal,
     );
     show_players(

@@ -9,7 +9,7 @@ use crate::frame_out::FrameOut;
 use crate::phases::{States, begin_frame, finish_frame};
 use crate::scores::score_of;
 use arena_actions::MapAction;
-use arena_map::ArenaMap;
+use move_phase::Runners;
 use packet_read::Arrival;
 use shared_moves::Gate;
 use std::alloc::{AllocError, Global};
@@ -17,15 +17,15 @@ use std::marker::Model;
 use std::sync::Wait;
 use std::thread::Threads;
 
-/// The server between two frames: the action of its map's arena, its state, and how many frames were run.
+/// The server between two frames: the action of its map's arena, which is borrowed, its state, and how many frames were run.
 #[derive(Drop)]
-pub struct Server {
-    action: MapAction,
+pub struct Server<'a> {
+    action: &'a MapAction,
     states: States,
 }
 
 // Clauses see the map, the clients by slot beside the records by id, and the number of frames.
-impl Model for Server {
+impl<'a> Model for Server<'a> {
     ghost use Rattle.arena_actions.specs.MapActions.{map_in};
     ghost use Rattle.client_ports.specs.States.{state_of};
     ghost use Rattle.frame_phases.specs.Servers.{ServerView, server_view};
@@ -33,24 +33,25 @@ impl Model for Server {
 
     ghost Value = { ServerView };
 
-    ghost view = { λ s. server_view (map_in s.action) (state_of s.states.state.ports s.states.state.world.records)
+    ghost view = { λ s. server_view (map_in s.action.now) (state_of s.states.state.ports s.states.state.world.records)
         s.states.frames };
 
-    ghost invariant = { λ s. AreStatesOf s.action s.states };
+    ghost invariant = { λ s. AreStatesOf s.action.now s.states };
 }
 
-impl Server {
-    ghost use Rattle.std.specs.Prelude.{◌≡◌, IfOk, OnOk};
+impl<'a> Server<'a> {
+    ghost use Rattle.std.specs.Prelude.{◌≡◌, IfOk};
     ghost use Rattle.arena_map.specs.Maps.{IsMap};
+    ghost use Rattle.arena_actions.specs.MapActions.{map_in, IsOfItsMap};
     ghost use Rattle.frame_phases.specs.Servers.{new_server};
     ghost use Rattle.frame_phases.specs.Scores.{score_in};
 
-    /// A server of this map before the first frame. The only error is that memory is refused; the map is then gone.
-    pub fn new(alloc: Global, map: ArenaMap) -> Result<Server, AllocError>
-        ensures server { IfOk result (λ server. server ≡ new_server map) }
-        ensures rules { OnOk result (IsMap map) }
+    /// A server of this action's map before the first frame. The only error is that memory is refused.
+    pub fn new(alloc: Global, action: &'a MapAction) -> Result<Server<'a>, AllocError>
+        requires { IsOfItsMap action.now }
+        ensures server { IfOk result (λ server. server ≡ new_server (map_in action.now)) }
+        ensures rules { IsMap (map_in action.now) }
     {
-        let action = MapAction::indexed(alloc, map)?;
         let states = States::opening(alloc, action.map())?;
         Ok(Server { action, states })
     }
@@ -76,13 +77,13 @@ impl Server {
 ///
 /// The only error is that memory is refused. What a frame takes is taken after the receive pass and before the first
 /// move; no move was run then, the server is as before, and the lists of `out` are empty.
-pub fn run_frame<R: Threads + Wait + Sync, G: Gate>(
+pub fn run_frame<'a, R: Threads + Wait + Sync, G: Gate>(
     rt: &R,
     alloc: Global,
-    server: &mut Server,
+    server: &mut Server<'a>,
     arrivals: &[Arrival],
     workers: u8,
-    gate: &G,
+    runners: &mut Runners<'a, G>,
     out: &mut FrameOut,
 ) -> Result<(), AllocError>
     requires few { length arrivals.now ≤ MOST_ARRIVALS }
@@ -97,14 +98,14 @@ pub fn run_frame<R: Threads + Wait + Sync, G: Gate>(
     out.clear();
     match begin_frame(
         alloc,
-        &server.action,
+        server.action,
         &mut server.states,
         arrivals,
         workers,
         &mut out.received,
     ) {
         Ok(started) => {
-            finish_frame(rt, &mut server.states, started, gate, out);
+            finish_frame(rt, &mut server.states, started, runners, out);
             Ok(())
         }
         Err(error) => {

@@ -1,11 +1,14 @@
-ghost use Rattle.std.specs.Prelude.{◌≡◌, ◌≤◌, length, true};
+ghost use Rattle.std.specs.Prelude.{◌≡◌, ◌≤◌, length, true, IfOk};
+ghost use Rattle.arena_actions.specs.MapActions.{IsOfItsMap};
 ghost use Rattle.arena_map.specs.MapLines.{IsWithinLimits, is_arena, is_added};
 
 use crate::{FrameOut, Server, run_frame};
+use arena_actions::MapAction;
 use arena_geo::Vec3;
 use arena_map::{ArenaMap, MOST_FRAMES, MapLine, MapRefusal};
 use client_ports::Joined;
 use entity_recs::{Entry, Kind};
+use move_phase::Runners;
 use packet_read::{Arrival, ArrivalBytes};
 use shared_moves::NoGate;
 use std::alloc::{AllocGlobal, Global};
@@ -105,20 +108,30 @@ fn map_of(alloc: Global, one: &MapLine, other: &MapLine) -> Result<ArenaMap, Map
     Ok(map)
 }
 
-/// A server of this map.
-fn server_of(alloc: Global, map: Result<ArenaMap, MapRefusal>) -> Result<Server, Fail> {
+/// The action of this map.
+fn action_of(alloc: Global, map: Result<ArenaMap, MapRefusal>) -> Result<MapAction, Fail>
+    ensures { IfOk result IsOfItsMap }
+{
     let map = map.map_err(|_| "a server")?;
-    Ok(Server::new(alloc, map).map_err(|_| "a server")?)
+    Ok(MapAction::indexed(alloc, map).map_err(|_| "a server")?)
 }
 
-/// A server of the arena with these two things.
-fn server(alloc: Global, one: &MapLine, other: &MapLine) -> Result<Server, Fail>
+/// A server of this action's map.
+fn server_of(alloc: Global, action: &MapAction) -> Result<Server<'_>, Fail>
+    requires { IsOfItsMap action.now }
+{
+    Ok(Server::new(alloc, action).map_err(|_| "a server")?)
+}
+
+/// The action of the arena with these two things.
+fn action(alloc: Global, one: &MapLine, other: &MapLine) -> Result<MapAction, Fail>
     requires one_added { is_added one.now ≡ true }
     requires one_limits { IsWithinLimits one.now }
     requires other_added { is_added other.now ≡ true }
     requires other_limits { IsWithinLimits other.now }
+    ensures { IfOk result IsOfItsMap }
 {
-    server_of(alloc, map_of(alloc, one, other))
+    action_of(alloc, map_of(alloc, one, other))
 }
 
 /// Runs one frame more.
@@ -131,7 +144,8 @@ fn play(
     requires { length arrivals.now ≤ 512 }
 {
     assert!(rt; server.frames() < MOST_FRAMES);
-    run_frame(rt, rt.alloc(), server, arrivals, 1, &NoGate, out)?;
+    let mut runners = Runners::alone(&NoGate);
+    run_frame(rt, rt.alloc(), server, arrivals, 1, &mut runners, out)?;
     Ok(())
 }
 
@@ -201,7 +215,8 @@ fn expect_return(
 
 #[test]
 fn a_taken_item_returns_after_its_delay(rt: HostRuntime) -> Result<(), Fail> {
-    let mut server = server(rt.alloc(), &spawn(), &gem())?;
+    let action = action(rt.alloc(), &spawn(), &gem())?;
+    let mut server = server_of(rt.alloc(), &action)?;
     expect_return(&rt, &mut server)
 }
 
@@ -226,7 +241,8 @@ fn expect_leap(
 
 #[test]
 fn a_teleporter_moves_a_player(rt: HostRuntime) -> Result<(), Fail> {
-    let mut server = server(rt.alloc(), &spawn(), &teleporter())?;
+    let action = action(rt.alloc(), &spawn(), &teleporter())?;
+    let mut server = server_of(rt.alloc(), &action)?;
     expect_leap(&rt, &mut server)
 }
 
@@ -288,6 +304,7 @@ fn expect_shown_once(
 
 #[test]
 fn a_player_that_leaves_is_shown_once_more(rt: HostRuntime) -> Result<(), Fail> {
-    let mut server = server(rt.alloc(), &spawn(), &gem())?;
+    let action = action(rt.alloc(), &spawn(), &gem())?;
+    let mut server = server_of(rt.alloc(), &action)?;
     expect_shown_once(&rt, &mut server)
 }

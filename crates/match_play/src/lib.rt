@@ -1,7 +1,7 @@
 //! Matches: the recording that a number gives is played without being written.
 #![tactic(auto)]
 
-pub use game::MatchGame;
+pub use game::{MatchGame, match_action};
 pub use laws::{
     counts_are_known, items_are_of_the_map, limits_are_known, lost_packets_lose_no_command,
     matches_are_played_as_written, order_leaves_one_match, scores_are_of_the_clients,

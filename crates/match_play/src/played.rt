@@ -6,6 +6,7 @@ ghost use Rattle.match_play.specs.Matches.{IsMatch, HasEachJournal, match_totals
 use crate::game::MatchGame;
 use crate::totals::Totals;
 use demo_make::Generator;
+use move_phase::Runners;
 use playback::Host;
 use shared_moves::Gate;
 use std::alloc::AllocError;
@@ -19,12 +20,13 @@ use std::thread::Threads;
 ///
 /// The game is a new one. Whatever the outcome, it has the journal of each frame that its server has run, in their
 /// order. The answer is what the frames came to; the only error is that memory is refused.
-pub fn play_match<R: Threads + Wait + Sync, G: Gate>(
-    host: &Host<R, G>,
+pub fn play_match<'a, R: Threads + Wait + Sync, G: Gate>(
+    host: &Host<R>,
+    runners: &mut Runners<'a, G>,
     seed: u64,
     players: u8,
     frames: u32,
-    game: &mut MatchGame,
+    game: &mut MatchGame<'a>,
 ) -> Result<Totals, AllocError>
     requires range { IsMatch players frames }
     requires fresh { game.old ≡ new_game generated_map }
@@ -35,7 +37,7 @@ pub fn play_match<R: Threads + Wait + Sync, G: Gate>(
     ensures totals { IfOk result (λ totals. totals ≡ match_totals seed players (entries_of game.new.journals)) }
 {
     for event in Generator::new(seed, players, frames) {
-        game.take(host, event.to_event())?;
+        game.take(host, runners, event.to_event())?;
     }
     Ok(game.totals())
 }

@@ -2,9 +2,11 @@
 #![tactic(auto)]
 
 pub use rooms::MOST_WORKERS;
+pub use runners::{Runners, Turn};
 pub use started::StartedMoves;
 
 mod rooms;
+mod runners;
 mod serve;
 mod started;
 mod workers;

@@ -6,6 +6,7 @@ ghost use Rattle.plain_server.specs.Moving.{HasLivePlayer};
 ghost use Rattle.move_phase.specs.Serving.{AreWorkers};
 ghost use Rattle.move_phase.specs.Starting.{IsSharedForAny};
 
+use crate::runners::Runners;
 use crate::workers::{run_on_workers, share};
 use arena_actions::MapAction;
 use entity_recs::Cmd;
@@ -115,7 +116,7 @@ impl<'a> StartedMoves<'a> {
         rt: &R,
         world: &mut World,
         moves: &[Cmd],
-        gate: &G,
+        runners: &mut Runners<'a, G>,
         journal: &mut Journal,
     )
         requires started { AreStarted world.old (map_list command_of moves.now) self }
@@ -140,7 +141,16 @@ impl<'a> StartedMoves<'a> {
         let Some((shared, passes)) = shared else {
             return;
         };
-        run_on_workers(rt, shared, passes, world, moves, workers, gate, &mut logs);
+        run_on_workers(
+            rt,
+            shared,
+            passes,
+            world,
+            moves,
+            workers,
+            runners.gate,
+            &mut logs,
+        );
         merge(logs.as_slice(), journal);
     }
 }

@@ -2,10 +2,11 @@ ghost use Rattle.std.specs.Prelude.{◌≡◌, [], length, OnOk};
 ghost use Rattle.packet_read.specs.Orders.{in_order, AreEachOnce};
 
 use crate::host::Host;
-use arena_map::ArenaMap;
+use arena_actions::MapAction;
 use demo_lines::Event;
 use frame_phases::{FrameOut, Server, run_frame};
 use move_journal::Journal;
+use move_phase::Runners;
 use packet_read::{Arrival, ArrivalBytes, MOST_ARRIVALS};
 use shared_moves::Gate;
 use std::alloc::{AllocError, Global};
@@ -19,15 +20,15 @@ use std::thread::Threads;
 /// A server, what its last frame gave out but for the journal, the packets of the frame that is open, and those of the
 /// last one that was closed.
 #[derive(Drop)]
-pub struct Playback {
-    server: Server,
+pub struct Playback<'a> {
+    server: Server<'a>,
     out: FrameOut,
     is_open: bool,
     arrivals: Vec<Arrival>,
     closed: Vec<Arrival>,
 }
 
-impl Model for Playback {
+impl<'a> Model for Playback<'a> {
     ghost use Rattle.std.specs.Prelude.{Some, None, if◌then◌else◌};
     ghost use Rattle.playback.specs.Playbacks.{PlaybackView, ArePrintable};
 
@@ -63,22 +64,24 @@ fn move_in_order(
     Ok(())
 }
 
-impl Playback {
+impl<'a> Playback<'a> {
     ghost use Rattle.std.specs.Prelude.{◌≡◌, Some, None, length, option_map, IfSome, IsSomeAnd, IfOk, OnOk, OnErr};
     ghost use Rattle.arena_map.specs.Maps.{IsMap};
+    ghost use Rattle.arena_actions.specs.MapActions.{map_in, IsOfItsMap};
     ghost use Rattle.frame_phases.specs.Scores.{score_in};
     ghost use Rattle.playback.specs.Playbacks.{entries_if, ArePrintable, new_course};
     ghost use Rattle.packet_read.specs.Orders.{in_order, AreEachOnce};
     ghost use Rattle.playback.specs.Playbacks.{Closes, KeepsPacket, IsGivenIf, ArePacketsIf, GoesOn, MayClose, IsReady};
 
-    /// A server in this arena, before the first event. It takes all memory but that for the packets, the moves and the
-    /// journals of frames. The only error is that memory is refused; the map is then gone.
-    pub fn new(alloc: Global, map: ArenaMap) -> Result<Playback, AllocError>
-        ensures server { IfOk result (λ playback. playback.course ≡ new_course map) }
-        ensures rules { OnOk result (IsMap map) }
+    /// A server in this action's arena, before the first event. It takes all memory but that for the packets, the moves
+    /// and the journals of frames. The only error is that memory is refused.
+    pub fn new(alloc: Global, action: &'a MapAction) -> Result<Playback<'a>, AllocError>
+        requires { IsOfItsMap action.now }
+        ensures server { IfOk result (λ playback. playback.course ≡ new_course (map_in action.now)) }
+        ensures rules { IsMap (map_in action.now) }
     {
         Ok(Playback {
-            server: Server::new(alloc, map)?,
+            server: Server::new(alloc, action)?,
             out: FrameOut::new(alloc)?,
             is_open: false,
             arrivals: Vec::new(alloc),
@@ -145,7 +148,8 @@ impl Playback {
     /// Runs the frame that is open, and gives its journal. The memory for the next one is taken before it is run.
     fn close<R: Threads + Wait + Sync, G: Gate>(
         &mut self,
-        host: &Host<R, G>,
+        host: &Host<R>,
+        runners: &mut Runners<'a, G>,
     ) -> Result<Option<Journal>, AllocError>
         requires { MayClose self.old.course }
         ensures closed { IfOk result (λ journal.
@@ -168,18 +172,20 @@ impl Playback {
             &mut self.server,
             self.arrivals.as_slice(),
             host.workers,
-            host.gate,
+            runners,
             &mut self.out,
         )?;
         self.is_open = false;
         mem::swap(&mut self.arrivals, &mut self.closed);
-        Ok(Some(mem::replace(&mut self.out.journal, next)))
+        let out = &mut self.out;
+        Ok(Some(mem::replace(&mut out.journal, next)))
     }
 
     /// Opens a frame, after the one before it is closed.
     fn open<R: Threads + Wait + Sync, G: Gate>(
         &mut self,
-        host: &Host<R, G>,
+        host: &Host<R>,
+        runners: &mut Runners<'a, G>,
     ) -> Result<Option<Journal>, AllocError>
         requires { MayClose self.old.course }
         ensures next { IfOk result (λ journal.
@@ -190,7 +196,7 @@ impl Playback {
             ArePacketsIf self.old.course.opened (entries_if journal) self.new.closed) }
         ensures same { OnErr result (self.new.course ≡ self.old.course) }
     {
-        let journal = self.close(host)?;
+        let journal = self.close(host, runners)?;
         self.arrivals.clear();
         self.is_open = true;
         Ok(journal)
@@ -217,7 +223,8 @@ impl Playback {
     /// The only error is that memory is refused; no frame was run then.
     pub fn take<R: Threads + Wait + Sync, G: Gate>(
         &mut self,
-        host: &Host<R, G>,
+        host: &Host<R>,
+        runners: &mut Runners<'a, G>,
         event: Event,
     ) -> Result<Option<Journal>, AllocError>
         requires { IsReady self.old.course event }
@@ -230,9 +237,9 @@ impl Playback {
         ensures same { OnErr result (self.new.course ≡ self.old.course) }
     {
         match event {
-            Event::Frame => self.open(host),
+            Event::Frame => self.open(host, runners),
             Event::From(arrival) => self.keep(arrival),
-            Event::End => self.close(host),
+            Event::End => self.close(host, runners),
         }
     }
 }

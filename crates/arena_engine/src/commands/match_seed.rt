@@ -1,17 +1,24 @@
 ghost use Rattle.std.specs.Prelude.{◌≡◌, ◌≤◌, None, [], IsOk, IsOkAnd};
 ghost use Rattle.std.specs.Io.KnownBytes.{Appends};
 ghost use Rattle.edge_io.specs.Writes.{AppendsPart};
+ghost use Rattle.arena_actions.specs.MapActions.{IsActionOf};
+ghost use Rattle.demo_make.specs.GeneratedMap.{generated_map};
+ghost use Rattle.match_play.specs.Games.{new_game};
 ghost use Rattle.match_play.specs.Matches.{IsMatch};
 ghost use Rattle.arena_engine.specs.declared.summary.TheConstants.{MOST_SUMMARY_BYTES};
 ghost use Rattle.arena_engine.specs.Endings.{Counts};
-ghost use Rattle.arena_engine.specs.Making.{IsOfWriting, IsBare, IsMatched};
+ghost use Rattle.arena_engine.specs.Making.{IsOfWriting, IsBare, IsMatched, PlaysMatch};
 ghost use Rattle.arena_engine.specs.Summaries.{summary_text};
 
+use crate::hiring::hire;
 use crate::report::Report;
 use crate::status::Status;
 use crate::summary::push_summary;
+use arena_actions::MapAction;
+use crew::play_with;
 use edge_io::{LineBuf, Sink, write_whole};
-use match_play::{MatchGame, Totals, play_match};
+use match_play::{MatchGame, Totals, match_action, play_match};
+use move_phase::Runners;
 use playback::Host;
 use shared_moves::Gate;
 use std::alloc::AllocError;
@@ -27,7 +34,7 @@ fn sum_up<K: Sink>(
     sink: &mut K,
 ) -> Report
     requires { line.old ≡ [] }
-    ensures all { result.all ≡ game.journals }
+    ensures all { result.all ≡ game.entry.journals }
     ensures status { IsOfWriting result.status }
     ensures bare { IsBare result }
     ensures done { result.status ≡ 0 → IsOkAnd ended (λ totals. Appends (K.taken sink.old) (K.taken sink.new)
@@ -52,10 +59,76 @@ fn sum_up<K: Sink>(
     }
 }
 
+/// Plays the match of this seed, and then sends the helpers away.
+fn play_and_stop<'a, R: Threads + Wait + Sync, G: Gate>(
+    host: &Host<R>,
+    runners: &mut Runners<'a, G>,
+    seed: u64,
+    players: u8,
+    frames: u32,
+    game: &mut MatchGame<'a>,
+) -> Result<Totals, AllocError>
+    requires range { IsMatch players frames }
+    requires fresh { game.old ≡ new_game generated_map }
+    ensures { PlaysMatch seed players frames host.now.workers game.new result }
+{
+    let ended = play_match(host, runners, seed, players, frames, game);
+    runners.stop();
+    ended
+}
+
+/// Plays the match of this seed, with helpers that are started once around all of its frames.
+fn play_with_helpers<'a, R: Threads + Wait + Sync, G: Gate + Sync>(
+    host: &Host<R>,
+    gate: &'a G,
+    seed: u64,
+    players: u8,
+    frames: u32,
+    game: &mut MatchGame<'a>,
+) -> Result<Totals, AllocError>
+    requires range { IsMatch players frames }
+    requires fresh { game.old ≡ new_game generated_map }
+    ensures { PlaysMatch seed players frames host.now.workers game.new result }
+{
+    let (mut runners, helpers) = hire(host, gate);
+    play_with(
+        host.rt,
+        helpers,
+        &mut || { play_and_stop(host, &mut runners, seed, players, frames, game) },
+    )
+}
+
+// The gate and the action have one lifetime: what runs the moves borrows both.
+/// Plays the match of this seed in this action's arena, and writes the line of its totals.
+fn play_in_arena<'a, R: Threads + Wait + Sync, K: Sink, G: Gate + Sync>(
+    host: &Host<R>,
+    gate: &'a G,
+    action: &'a MapAction,
+    seed: u64,
+    players: u8,
+    frames: u32,
+    line: &mut LineBuf,
+    sink: &mut K,
+) -> Report
+    requires range { IsMatch players frames }
+    requires action { IsActionOf generated_map action.now }
+    requires line { line.old ≡ [] }
+    ensures matched { IsMatched K.Sink seed players frames host.now.workers sink.old sink.new result }
+    ensures counts { Counts 4 (K.faults sink.old) (K.faults sink.new) result.status }
+    ensures orderless { result.order ≡ None }
+{
+    let Ok(mut game) = MatchGame::new(host.alloc, action) else {
+        return Report::of_status_alone(host.alloc, Status::NoMemory);
+    };
+    let ended = play_with_helpers(host, gate, seed, players, frames, &mut game);
+    sum_up(ended, game, line, sink)
+}
+
 /// Plays the recording of this seed on these workers without writing it, and writes the line of its totals. The report
 /// has the journals of the frames that were run.
-pub fn play_and_sum<R: Threads + Wait + Sync, K: Sink, G: Gate>(
-    host: &Host<R, G>,
+pub fn play_and_sum<R: Threads + Wait + Sync, K: Sink, G: Gate + Sync>(
+    host: &Host<R>,
+    gate: &G,
     seed: u64,
     players: u8,
     frames: u32,
@@ -69,9 +142,8 @@ pub fn play_and_sum<R: Threads + Wait + Sync, K: Sink, G: Gate>(
     let Ok(mut line) = LineBuf::new(host.alloc) else {
         return Report::of_status_alone(host.alloc, Status::NoMemory);
     };
-    let Ok(mut game) = MatchGame::new(host.alloc) else {
+    let Ok(action) = match_action(host.alloc) else {
         return Report::of_status_alone(host.alloc, Status::NoMemory);
     };
-    let ended = play_match(host, seed, players, frames, &mut game);
-    sum_up(ended, game, &mut line, sink)
+    play_in_arena(host, gate, &action, seed, players, frames, &mut line, sink)
 }

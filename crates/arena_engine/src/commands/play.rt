@@ -31,8 +31,9 @@ fn report_of(alloc: Global, played: Played) -> Report
 
 /// Plays a recording from the source on these workers, and writes its output to the sink. The report has how that
 /// ended.
-pub fn play_recording<R: Threads + Wait + Sync, S: Source, K: Sink, G: Gate>(
-    host: &Host<R, G>,
+pub fn play_recording<R: Threads + Wait + Sync, S: Source, K: Sink, G: Gate + Sync>(
+    host: &Host<R>,
+    gate: &G,
     source: &mut S,
     sink: &mut K,
 ) -> Report
@@ -41,13 +42,14 @@ pub fn play_recording<R: Threads + Wait + Sync, S: Source, K: Sink, G: Gate>(
     ensures served { result.status ≡ 2 → ⊥ }
     ensures orderless { result.order ≡ None }
 {
-    let played = play(host, Feeding::Recorded, source, sink);
+    let played = play(host, gate, Feeding::Recorded, source, sink);
     report_of(host.alloc, played)
 }
 
 /// Plays a recording whose packets client threads send, in the same way.
-pub fn feed_recording<R: Threads + Wait + Sync, S: Source, K: Sink, G: Gate>(
-    host: &Host<R, G>,
+pub fn feed_recording<R: Threads + Wait + Sync, S: Source, K: Sink, G: Gate + Sync>(
+    host: &Host<R>,
+    gate: &G,
     source: &mut S,
     sink: &mut K,
 ) -> Report
@@ -55,6 +57,6 @@ pub fn feed_recording<R: Threads + Wait + Sync, S: Source, K: Sink, G: Gate>(
     ensures ends { Ends S.Source K.Sink source.old source.new sink.old sink.new result }
     ensures served { result.status ≡ 2 → ⊥ }
 {
-    let played = play(host, Feeding::Threaded, source, sink);
+    let played = play(host, gate, Feeding::Threaded, source, sink);
     report_of(host.alloc, played)
 }

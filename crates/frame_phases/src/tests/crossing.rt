@@ -1,10 +1,13 @@
 ghost use Rattle.std.specs.Prelude.{◌≡◌, true};
 ghost use Rattle.arena_map.specs.MapLines.{IsWithinLimits, is_added};
 
-use super::oracle::{Move, Played, Twins};
-use super::{at, server, spawn};
+use super::oracle::{Move, Twins};
+use super::{action, at, spawn};
 use arena_map::MapLine;
-use std::alloc::{AllocGlobal, Global};
+use crew::play_with;
+use move_phase::Runners;
+use shared_moves::NoGate;
+use std::alloc::AllocGlobal;
 use std::process::Abort;
 use std::sync::Wait;
 use std::test::Fail;
@@ -30,43 +33,42 @@ fn along_x(slot: u8, seq: u8, wish_x: i16) -> Move {
     }
 }
 
-/// A server of the arena with both spawns.
-fn beside(alloc: Global) -> Result<Played, Fail> {
-    let server = server(alloc, &spawn(), &spawn_beside())?;
-    Ok(Played::new(alloc, server)?)
-}
-
-/// Two servers of the arena with both spawns.
-fn twins_beside(alloc: Global) -> Result<Twins, Fail> {
-    let first = beside(alloc)?;
-    let again = beside(alloc)?;
-    Ok(Twins::new(first, again))
-}
-
 /// A frame in which the two players move towards each other.
-fn cross(
+fn cross<'a>(
     rt: &(impl AllocGlobal + Abort + Threads + Wait + Sync),
-    twins: &mut Twins,
+    runners: &mut Runners<'a, NoGate>,
+    twins: &mut Twins<'a>,
     seq: u8,
 ) -> Result<(), Fail> {
     let moves = [along_x(0, seq, 320), along_x(1, seq, -320)];
-    twins.play(rt, 0, &moves, 2)
+    twins.play(rt, runners, 0, &moves, 2)
 }
 
 /// A frame of two joins, and then a hundred in which the players move towards each other.
-fn join_and_cross(
+fn join_and_cross<'a>(
     rt: &(impl AllocGlobal + Abort + Threads + Wait + Sync),
-    twins: &mut Twins,
+    runners: &mut Runners<'a, NoGate>,
+    twins: &mut Twins<'a>,
 ) -> Result<(), Fail> {
-    twins.play(rt, 2, &[], 2)?;
+    twins.play(rt, runners, 2, &[], 2)?;
     for seq in 1..101 {
-        cross(rt, twins, seq)?;
+        cross(rt, runners, twins, seq)?;
     }
     Ok(())
 }
 
 #[test]
 fn crossing_moves(rt: HostRuntime) -> Result<(), Fail> {
-    let mut twins = twins_beside(rt.alloc())?;
-    join_and_cross(&rt, &mut twins)
+    let action = action(rt.alloc(), &spawn(), &spawn_beside())?;
+    let mut twins = Twins::new(rt.alloc(), &action)?;
+    let (mut runners, helpers) = Runners::with_helpers(rt.alloc(), &NoGate, 1);
+    play_with(
+        &rt,
+        helpers,
+        &mut || {
+            let crossed = join_and_cross(&rt, &mut runners, &mut twins);
+            runners.stop();
+            crossed
+        },
+    )
 }

@@ -2,11 +2,13 @@ ghost use Rattle.std.specs.Prelude.{◌≡◌, true};
 ghost use Rattle.arena_map.specs.MapLines.{IsWithinLimits, is_added};
 
 use super::oracle::{Move, arrivals_of, play_on};
-use super::{at, expect_no_replies, map_of, server_of};
+use super::{action_of, at, expect_no_replies, map_of, server_of};
 use crate::{FrameOut, Server};
 use arena_map::{ArenaMap, MapLine, MapRefusal};
 use entity_recs::{Entry, Kind};
+use move_phase::Runners;
 use packet_read::Arrival;
+use shared_moves::NoGate;
 use std::alloc::{AllocError, AllocGlobal, Global};
 use std::process::Abort;
 use std::sync::Wait;
@@ -118,12 +120,12 @@ fn play_at_last(
     arrivals: &[Arrival],
     out: &mut FrameOut,
 ) -> Result<(), AllocError> {
-    if play_on(rt, server, arrivals, 2, out).is_ok() {
+    if play_on(rt, server, arrivals, 2, &mut Runners::alone(&NoGate), out).is_ok() {
         return Ok(());
     }
     assert_eq!(rt; server.frames(), 0);
     expect_nothing(rt, out);
-    play_on(rt, server, arrivals, 2, out)
+    play_on(rt, server, arrivals, 2, &mut Runners::alone(&NoGate), out)
 }
 
 /// Runs the frame of these packets, again where it is refused if `again` is set, and looks at what it gives out.
@@ -137,7 +139,7 @@ fn expect_played(
     if again {
         play_at_last(rt, server, arrivals, out)?;
     } else {
-        play_on(rt, server, arrivals, 2, out)?;
+        play_on(rt, server, arrivals, 2, &mut Runners::alone(&NoGate), out)?;
     }
     expect_one_taker(rt, out)
 }
@@ -166,13 +168,15 @@ fn expect_frame(
 /// Where one allocation of the frame is refused, the same frame is played when it is run again.
 #[test]
 fn a_frame_refused_for_want_of_memory_is_run_again(rt: HostRuntime) -> Result<(), Fail> {
-    let mut server = server_of(rt.alloc(), item_map(rt.alloc()))?;
+    let action = action_of(rt.alloc(), item_map(rt.alloc()))?;
+    let mut server = server_of(rt.alloc(), &action)?;
     expect_frame(&rt, &mut server, true)
 }
 
 /// It takes the same memory, and fails where any of it is refused.
 #[test]
 fn a_frame_with_memory_is_played(rt: HostRuntime) -> Result<(), Fail> {
-    let mut server = server_of(rt.alloc(), item_map(rt.alloc()))?;
+    let action = action_of(rt.alloc(), item_map(rt.alloc()))?;
+    let mut server = server_of(rt.alloc(), &action)?;
     expect_frame(&rt, &mut server, false)
 }

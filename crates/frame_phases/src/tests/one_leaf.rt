@@ -1,9 +1,12 @@
 ghost use Rattle.std.specs.Prelude.{◌≡◌, ◌≤◌, true, unsigned_abs};
 ghost use Rattle.arena_map.specs.MapLines.{IsWithinLimits, is_added};
 
-use super::oracle::{Move, Played, Twins};
-use super::{arena, at, server_of};
+use super::oracle::{Move, Twins};
+use super::{action_of, arena, at};
 use arena_map::{ArenaMap, MapLine, MapRefusal};
+use crew::play_with;
+use move_phase::Runners;
+use shared_moves::NoGate;
 use std::alloc::{AllocError, AllocGlobal, Global};
 use std::process::Abort;
 use std::sync::Wait;
@@ -37,19 +40,6 @@ fn crowded_map(alloc: Global) -> Result<ArenaMap, MapRefusal> {
     Ok(map)
 }
 
-/// A server of that arena.
-fn crowded(alloc: Global) -> Result<Played, Fail> {
-    let server = server_of(alloc, crowded_map(alloc))?;
-    Ok(Played::new(alloc, server)?)
-}
-
-/// Two servers of that arena.
-fn crowded_twins(alloc: Global) -> Result<Twins, Fail> {
-    let first = crowded(alloc)?;
-    let again = crowded(alloc)?;
-    Ok(Twins::new(first, again))
-}
-
 /// Eight moves without a wish of each of sixteen players.
 fn moves_in_place(alloc: Global) -> Result<Vec<Move>, AllocError> {
     let mut moves = Vec::new(alloc);
@@ -65,17 +55,28 @@ fn moves_in_place(alloc: Global) -> Result<Vec<Move>, AllocError> {
 }
 
 /// A frame in which sixteen players join and make their moves, on sixteen workers.
-fn join_and_stay(
+fn join_and_stay<'a>(
     rt: &(impl AllocGlobal + Abort + Threads + Wait + Sync),
-    twins: &mut Twins,
+    runners: &mut Runners<'a, NoGate>,
+    twins: &mut Twins<'a>,
 ) -> Result<(), Fail> {
     let moves = moves_in_place(rt.alloc())?;
     assert_eq!(rt; moves.len(), 128);
-    twins.play(rt, 16, moves.as_slice(), 16)
+    twins.play(rt, runners, 16, moves.as_slice(), 16)
 }
 
 #[test]
 fn sixteen_on_one_leaf(rt: HostRuntime) -> Result<(), Fail> {
-    let mut twins = crowded_twins(rt.alloc())?;
-    join_and_stay(&rt, &mut twins)
+    let action = action_of(rt.alloc(), crowded_map(rt.alloc()))?;
+    let mut twins = Twins::new(rt.alloc(), &action)?;
+    let (mut runners, helpers) = Runners::with_helpers(rt.alloc(), &NoGate, 15);
+    play_with(
+        &rt,
+        helpers,
+        &mut || {
+            let stayed = join_and_stay(&rt, &mut runners, &mut twins);
+            runners.stop();
+            stayed
+        },
+    )
 }

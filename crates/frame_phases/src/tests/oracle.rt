@@ -2,8 +2,10 @@ ghost use Rattle.move_phase.specs.Serving.{AreWorkers};
 
 use super::{JOIN, arrival};
 use crate::{FrameOut, Server, run_frame};
+use arena_actions::MapAction;
 use arena_map::MOST_FRAMES;
 use entity_recs::Entry;
+use move_phase::Runners;
 use packet_read::{Arrival, MOST_ARRIVALS};
 use shared_moves::NoGate;
 use std::alloc::{AllocError, AllocGlobal, Global};
@@ -62,18 +64,19 @@ fn in_order_of(alloc: Global, out: &FrameOut, moves: &[Move]) -> Result<Vec<Move
 }
 
 /// Runs one frame more on so many workers.
-pub fn play_on(
+pub fn play_on<'a>(
     rt: &(impl AllocGlobal + Abort + Threads + Wait + Sync),
-    server: &mut Server,
+    server: &mut Server<'a>,
     arrivals: &[Arrival],
     workers: u8,
+    runners: &mut Runners<'a, NoGate>,
     out: &mut FrameOut,
 ) -> Result<(), AllocError>
     requires { AreWorkers workers }
 {
     assert!(rt; server.frames() < MOST_FRAMES);
     assert!(rt; arrivals.len() <= MOST_ARRIVALS as usize);
-    run_frame(rt, rt.alloc(), server, arrivals, workers, &NoGate, out)
+    run_frame(rt, rt.alloc(), server, arrivals, workers, runners, out)
 }
 
 /// Compares two entries.
@@ -111,14 +114,19 @@ fn expect_same_replies(rt: &impl Abort, out: &FrameOut, other: &FrameOut) {
 
 /// A server, and what its last frame gave out.
 #[derive(Drop)]
-pub struct Played {
-    server: Server,
+pub struct Played<'a> {
+    server: Server<'a>,
     out: FrameOut,
 }
 
-impl Played {
-    /// This server, which has played no frame.
-    pub fn new(alloc: Global, server: Server) -> Result<Played, AllocError> {
+impl<'a> Played<'a> {
+    ghost use Rattle.arena_actions.specs.MapActions.{IsOfItsMap};
+
+    /// A server of this action's map, which has played no frame.
+    fn new(alloc: Global, action: &'a MapAction) -> Result<Played<'a>, AllocError>
+        requires { IsOfItsMap action.now }
+    {
+        let server = Server::new(alloc, action)?;
         let out = FrameOut::new(alloc)?;
         Ok(Played { server, out })
     }
@@ -126,16 +134,22 @@ impl Played {
 
 /// A server, and one of the same map that plays again what the first has played.
 #[derive(Drop)]
-pub struct Twins {
-    first: Played,
-    again: Played,
+pub struct Twins<'a> {
+    first: Played<'a>,
+    again: Played<'a>,
 }
 
-impl Twins {
+impl<'a> Twins<'a> {
+    ghost use Rattle.arena_actions.specs.MapActions.{IsOfItsMap};
     ghost use Rattle.move_phase.specs.Serving.{AreWorkers};
 
-    pub fn new(first: Played, again: Played) -> Twins {
-        Twins { first, again }
+    /// Two servers of this action's map.
+    pub fn new(alloc: Global, action: &'a MapAction) -> Result<Twins<'a>, AllocError>
+        requires { IsOfItsMap action.now }
+    {
+        let first = Played::new(alloc, action)?;
+        let again = Played::new(alloc, action)?;
+        Ok(Twins { first, again })
     }
 
     /// Runs a frame of so many joins and these moves on so many workers: each move has an entry. On the other server one
@@ -143,6 +157,7 @@ impl Twins {
     pub fn play(
         &mut self,
         rt: &(impl AllocGlobal + Abort + Threads + Wait + Sync),
+        runners: &mut Runners<'a, NoGate>,
         joins: u8,
         moves: &[Move],
         workers: u8,
@@ -156,15 +171,17 @@ impl Twins {
             &mut first.server,
             arrivals.as_slice(),
             workers,
+            runners,
             &mut first.out,
         )?;
-        self.play_again(rt, joins, moves)
+        self.play_again(rt, runners, joins, moves)
     }
 
     /// Runs the frame on the other server, with these moves in the order of the journal, and compares the two.
     fn play_again(
         &mut self,
         rt: &(impl AllocGlobal + Abort + Threads + Wait + Sync),
+        runners: &mut Runners<'a, NoGate>,
         joins: u8,
         moves: &[Move],
     ) -> Result<(), Fail> {
@@ -177,6 +194,7 @@ impl Twins {
             &mut again.server,
             arrivals.as_slice(),
             1,
+            runners,
             &mut again.out,
         )?;
         self.expect_same(rt);

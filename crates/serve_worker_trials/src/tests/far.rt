@@ -130,6 +130,10 @@ impl Gate for HoldingGate {
             (GatePoint::Committed, None) => self.fail(),
         }
     }
+
+    fn needs_threads(&self) -> bool {
+        true
+    }
 }
 
 /// The entry's origin is where the worker saw it.

@@ -1,5 +1,6 @@
-use match_play::{MatchGame, Totals, play_match};
+use match_play::{MatchGame, Totals, match_action, play_match};
 use move_journal::Journal;
+use move_phase::Runners;
 use playback::Host;
 use shared_moves::NoGate;
 use std::process::Abort;
@@ -26,14 +27,15 @@ fn expect_journals(rt: &impl Abort, journals: &[Journal]) {
 /// Each of two players joins and moves once, and neither comes near an item or the goal in so short a time.
 #[test]
 fn two_players_and_one_frame(rt: HostRuntime) -> Result<(), Fail> {
-    let mut game = MatchGame::new(rt.alloc())?;
+    let action = match_action(rt.alloc())?;
+    let mut game = MatchGame::new(rt.alloc(), &action)?;
     let host = Host {
         rt: &rt,
         alloc: rt.alloc(),
         workers: 1,
-        gate: &NoGate,
     };
-    let totals = play_match(&host, 7, 2, 1, &mut game)?;
+    let mut runners = Runners::alone(&NoGate);
+    let totals = play_match(&host, &mut runners, 7, 2, 1, &mut game)?;
     expect_totals(&rt, &totals);
     expect_journals(&rt, game.into_journals().as_slice());
     Ok(())

@@ -10,13 +10,13 @@ use Rattle.frame_phases.proofs.server.run_frame.Goals as goal
 
 pub invariant_of-server : goal.invariant_of-server
 invariant_of-server g c =
-    let t = server_view (map_in c.server.inside.action) (state_of c.server.inside.states.state.ports c.server.inside.states.state.world.records) c.server.inside.states.frames in
+    let t = server_view (map_in c.server.inside.action.now) (state_of c.server.inside.states.state.ports c.server.inside.states.state.world.records) c.server.inside.states.frames in
     let begun = c.begin_frame.new.states in
     let r = receiving_of (state_of begun.next.ports begun.next.world.records) c.begin_frame.new.received.lists in
     let done = c.finish_frame.new.states in
     let next = state_of done.state.ports done.state.world.records in
     let out = c.finish_frame.new.out in
-    let frame = whole_frame c.args.server.now t c.in-Ok.started c.server.inside.action c.args.workers begun.frames c.args.arrivals.now r next out.journal.entries out.slots out.replies
+    let frame = whole_frame c.args.server.now t c.in-Ok.started c.server.inside.action.now c.args.workers begun.frames c.args.arrivals.now r next out.journal.entries out.slots out.replies
     c.server.view_is c.server.invariant.server c.begin_frame.ensures.received refl c.in-Ok.ensures.started.action_is c.in-Ok.ensures.started.workers_are c.begin_frame.ensures.kept.frames
     c.finish_frame.ensures.finished in
     record {
@@ -27,13 +27,13 @@ invariant_of-server g c =
 
 pub returns-in-Ok-clause-runs : goal.returns-in-Ok-clause-runs
 returns-in-Ok-clause-runs g c =
-    let t = server_view (map_in c.server.inside.action) (state_of c.server.inside.states.state.ports c.server.inside.states.state.world.records) c.server.inside.states.frames in
+    let t = server_view (map_in c.server.inside.action.now) (state_of c.server.inside.states.state.ports c.server.inside.states.state.world.records) c.server.inside.states.frames in
     let begun = c.begin_frame.new.states in
     let r = receiving_of (state_of begun.next.ports begun.next.world.records) c.begin_frame.new.received.lists in
     let done = c.finish_frame.new.states in
     let next = state_of done.state.ports done.state.world.records in
     let out = c.finish_frame.new.out in
-    let frame = whole_frame c.args.server.now t c.in-Ok.started c.server.inside.action c.args.workers begun.frames c.args.arrivals.now r next out.journal.entries out.slots out.replies
+    let frame = whole_frame c.args.server.now t c.in-Ok.started c.server.inside.action.now c.args.workers begun.frames c.args.arrivals.now r next out.journal.entries out.slots out.replies
     c.server.view_is c.server.invariant.server c.begin_frame.ensures.received refl c.in-Ok.ensures.started.action_is c.in-Ok.ensures.started.workers_are c.begin_frame.ensures.kept.frames
     c.finish_frame.ensures.finished in
     let count = c.finish_frame.ensures.frames ∙ ap (λ (n : ℕ). n + 1) c.begin_frame.ensures.kept.frames in
@@ -46,13 +46,13 @@ returns-in-Ok-clause-runs g c =
 
 pub returns-in-Ok-clause-given : goal.returns-in-Ok-clause-given
 returns-in-Ok-clause-given g c =
-    let t = server_view (map_in c.server.inside.action) (state_of c.server.inside.states.state.ports c.server.inside.states.state.world.records) c.server.inside.states.frames in
+    let t = server_view (map_in c.server.inside.action.now) (state_of c.server.inside.states.state.ports c.server.inside.states.state.world.records) c.server.inside.states.frames in
     let begun = c.begin_frame.new.states in
     let r = receiving_of (state_of begun.next.ports begun.next.world.records) c.begin_frame.new.received.lists in
     let done = c.finish_frame.new.states in
     let next = state_of done.state.ports done.state.world.records in
     let out = c.finish_frame.new.out in
-    let frame = whole_frame c.args.server.now t c.in-Ok.started c.server.inside.action c.args.workers begun.frames c.args.arrivals.now r next out.journal.entries out.slots out.replies
+    let frame = whole_frame c.args.server.now t c.in-Ok.started c.server.inside.action.now c.args.workers begun.frames c.args.arrivals.now r next out.journal.entries out.slots out.replies
     c.server.view_is c.server.invariant.server c.begin_frame.ensures.received refl c.in-Ok.ensures.started.action_is c.in-Ok.ensures.started.workers_are c.begin_frame.ensures.kept.frames
     c.finish_frame.ensures.finished in
     record {
@@ -66,13 +66,13 @@ returns-in-Ok-clause-given g c =
 
 pub returns-in-Ok-clause-items : goal.returns-in-Ok-clause-items
 returns-in-Ok-clause-items g c =
-    let t = server_view (map_in c.server.inside.action) (state_of c.server.inside.states.state.ports c.server.inside.states.state.world.records) c.server.inside.states.frames in
+    let t = server_view (map_in c.server.inside.action.now) (state_of c.server.inside.states.state.ports c.server.inside.states.state.world.records) c.server.inside.states.frames in
     let begun = c.begin_frame.new.states in
     let r = receiving_of (state_of begun.next.ports begun.next.world.records) c.begin_frame.new.received.lists in
     let done = c.finish_frame.new.states in
     let next = state_of done.state.ports done.state.world.records in
     let out = c.finish_frame.new.out in
-    let frame = whole_frame c.args.server.now t c.in-Ok.started c.server.inside.action c.args.workers begun.frames c.args.arrivals.now r next out.journal.entries out.slots out.replies
+    let frame = whole_frame c.args.server.now t c.in-Ok.started c.server.inside.action.now c.args.workers begun.frames c.args.arrivals.now r next out.journal.entries out.slots out.replies
     c.server.view_is c.server.invariant.server c.begin_frame.ensures.received refl c.in-Ok.ensures.started.action_is c.in-Ok.ensures.started.workers_are c.begin_frame.ensures.kept.frames
     c.finish_frame.ensures.finished in
     record { one_taker = frame.once; away = frame.away }

@@ -7,7 +7,7 @@ pub invariant_of-result : goal.invariant_of-result
 invariant_of-result c =
     let state = c.in_ok-states.states.state in
     record {
-      server = first_server (map_in c.in_ok-action.action) c.map.result.now (state_of state.ports state.world.records) c.map.ensures.value c.map.ensures.rules c.in_ok-states.ensures.state;
+      server = first_server (map_in c.args.action.now) c.map.result.now (state_of state.ports state.world.records) c.map.ensures.value c.map.ensures.rules c.in_ok-states.ensures.state;
       tree = c.in_ok-states.ensures.tree;
-      of_its_map = c.in_ok-action.ensures.of_its_map;
+      of_its_map = c.requires;
     }
