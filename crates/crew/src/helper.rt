@@ -7,6 +7,7 @@ use crate::post::{Post, Seat};
 use crate::steps::{begin, end, work};
 use crate::task::Task;
 use std::alloc::Global;
+use std::marker::Model;
 use std::sync::{Arc, Wait};
 use std::thread;
 use std::thread::Threads;
@@ -26,22 +27,47 @@ pub struct Helpers<T: Task> {
     pub(crate) helpers: Vec<Helper<T>>,
 }
 
-impl<T: Task + Send> Helpers<T> {
-    /// Whether there is none.
-    pub fn is_empty(&self) -> bool {
-        self.helpers.is_empty()
+// Clauses see how many they are.
+impl<T: Task> Model for Helpers<T> {
+    ghost use Rattle.std.specs.Prelude.{ℕ, length};
+
+    ghost Value = { ℕ };
+
+    ghost view = { λ h. length h.helpers.items };
+}
+
+impl<T: Task> Helpers<T> {
+    ghost use Rattle.std.specs.Prelude.{◌≡◌, ◌==◌};
+
+    /// No helper. It takes no memory.
+    pub fn none(alloc: Global) -> Helpers<T>
+        ensures { result ≡ 0 }
+    {
+        Helpers {
+            helpers: Vec::new(alloc),
+        }
     }
 
+    /// Whether there is none.
+    pub fn is_empty(&self) -> bool
+        ensures { result ≡ (self.now == 0) }
+    {
+        self.helpers.is_empty()
+    }
+}
+
+impl<T: Task + Send> Helpers<T> {
     /// Helps in a thread for each helper, and returns when all are done.
-    pub(crate) fn help<R: Threads + Wait + Sync>(mut self, rt: &R) {
-        let Some(helper) = self.helpers.pop() else {
+    pub(crate) fn help<R: Threads + Wait + Sync>(self, rt: &R) {
+        let Helpers { mut helpers } = self;
+        let Some(helper) = helpers.pop() else {
             return;
         };
-        if self.is_empty() {
+        if helpers.is_empty() {
             helper.help(rt);
             return;
         }
-        let rest = self;
+        let rest = Helpers { helpers };
         let one = move ||
             requires { IsSync R.row }
         { helper.help(rt) };

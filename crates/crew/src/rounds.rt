@@ -1,4 +1,4 @@
-ghost use Rattle.std.specs.Prelude.{◌≤◌, All, length, IfOk};
+ghost use Rattle.std.specs.Prelude.{◌≡◌, ◌≤◌, [], All, length, IfOk};
 ghost use Rattle.crew.specs.Plays.{IsFree, IsRested};
 ghost use Rattle.crew.specs.Rounds.{AreChanges, ChangesEach};
 
@@ -16,8 +16,13 @@ pub struct Crew<T: Task> {
 }
 
 impl<T: Task> Crew<T> {
+    ghost use Rattle.std.specs.Prelude.{◌≡◌, length, IfOk};
+
     /// A crew with a helper for each of these spare items, which lies where the helper's item would, while it has none.
-    pub fn new(alloc: Global, spares: Vec<T>) -> Result<(Crew<T>, Helpers<T>), AllocError> {
+    /// The only error is that memory is refused.
+    pub fn new(alloc: Global, spares: Vec<T>) -> Result<(Crew<T>, Helpers<T>), AllocError>
+        ensures { IfOk result (λ r. r.1 ≡ length spares.items) }
+    {
         let mut helpers = Vec::with_capacity(alloc, spares.len())?;
         let mut crew = Crew::alone(alloc);
         for spare in spares {
@@ -26,7 +31,8 @@ impl<T: Task> Crew<T> {
         Ok((crew, Helpers { helpers }))
     }
 
-    fn alone(alloc: Global) -> Crew<T> {
+    /// A crew without helpers. It takes no memory.
+    pub fn alone(alloc: Global) -> Crew<T> {
         Crew {
             desks: Vec::new(alloc),
         }
@@ -63,14 +69,27 @@ impl<T: Task> Crew<T> {
     {
         run_turns(rt, self.desks.as_mut_slice(), items);
     }
+
+    /// Sends the helpers away. Later rounds run without them.
+    pub fn stop(&mut self) {
+        stop_all(&mut self.desks);
+    }
 }
 
 impl<T: Task> Drop for Crew<T> {
     fn drop(self) {
         let Crew { mut desks } = self;
-        while let Some(mut desk) = desks.pop() {
-            desk.stop();
-        }
+        stop_all(&mut desks);
+    }
+}
+
+/// Ends the turns at each of these desks.
+fn stop_all<T: Task>(desks: &mut Vec<Desk<T>>)
+    requires { All (λ d. IsRested d.seat.me) desks.old.items }
+    ensures { desks.new.items ≡ [] }
+{
+    while let Some(mut desk) = desks.pop() {
+        desk.stop();
     }
 }
 

@@ -38,15 +38,20 @@ fn play<R: Threads + Wait + Sync>(
     items: &mut [Tally],
     rounds: u32,
 ) -> Result<(), AllocError> {
-    let (crew, helpers) = Crew::new(alloc, tallies(alloc, helpers)?)?;
-    play_with(rt, helpers, || run_rounds(rt, crew, items, rounds));
+    let (mut crew, helpers) = Crew::new(alloc, tallies(alloc, helpers)?)?;
+    play_with(
+        rt,
+        helpers,
+        &mut || run_rounds(rt, &mut crew, items, rounds),
+    );
     Ok(())
 }
 
-fn run_rounds<R: Wait>(rt: &R, mut crew: Crew<Tally>, items: &mut [Tally], rounds: u32) {
+fn run_rounds<R: Wait>(rt: &R, crew: &mut Crew<Tally>, items: &mut [Tally], rounds: u32) {
     for _ in 0..rounds {
         crew.run_each(rt, items);
     }
+    crew.stop();
 }
 
 #[test]

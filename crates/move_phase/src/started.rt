@@ -6,6 +6,7 @@ ghost use Rattle.plain_server.specs.Moving.{HasLivePlayer};
 ghost use Rattle.move_phase.specs.Serving.{AreWorkers};
 ghost use Rattle.move_phase.specs.Starting.{IsSharedForAny};
 
+use crate::runners::Runners;
 use crate::workers::{run_on_workers, share};
 use arena_actions::MapAction;
 use entity_recs::Cmd;
@@ -14,7 +15,6 @@ use shared_moves::{Gate, PassList, Shared};
 use std::alloc::{AllocError, Global};
 use std::marker::Model;
 use std::sync::Wait;
-use std::thread::Threads;
 use world_tree::World;
 
 /// A world that is shared, and the passes of the workers that run moves on it.
@@ -110,12 +110,12 @@ impl<'a> StartedMoves<'a> {
 
     /// Runs the moves, and puts what was done into the journal, by place. Slot p is served by worker p mod the number of
     /// workers, which runs its moves in the order of arrival. It takes no memory, and can't be refused.
-    pub fn run<R: Threads + Wait + Sync, G: Gate>(
+    pub fn run<R: Wait, G: Gate>(
         self,
         rt: &R,
         world: &mut World,
         moves: &[Cmd],
-        gate: &G,
+        runners: &mut Runners<'a, G>,
         journal: &mut Journal,
     )
         requires started { AreStarted world.old (map_list command_of moves.now) self }
@@ -140,7 +140,9 @@ impl<'a> StartedMoves<'a> {
         let Some((shared, passes)) = shared else {
             return;
         };
-        run_on_workers(rt, shared, passes, world, moves, workers, gate, &mut logs);
+        run_on_workers(
+            rt, shared, passes, world, moves, workers, runners, &mut logs,
+        );
         merge(logs.as_slice(), journal);
     }
 }
