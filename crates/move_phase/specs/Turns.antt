@@ -1,5 +1,5 @@
 -- The turns of a crew that runs the moves of a frame: each has a pass, which serves its share of them.
-use Rattle.std.specs.Prelude.{◌≡◌, ℕ, ◌+◌, ◌-◌, ◌<◌, List, length, map, slice_index_or, Some, IfSome, IsSome, IsSomeAnd}
+use Rattle.std.specs.Prelude.{◌≡◌, ℕ, ◌-◌, ◌<◌, List, length, map, slice_index_or, Some, IfSome, IsSome, IsSomeAnd}
 use Rattle.std.specs.Arc.{arc_value}
 use Rattle.entity_recs.specs.Commands.{Command, command_of}
 use Rattle.arena_actions.specs.declared.map_action.MapAction.{MapAction}
@@ -10,6 +10,12 @@ use Rattle.move_phase.specs.Starting.{fixed_of_arena}
 use Rattle.move_phase.specs.declared.frame_moves.FrameMoves.{FrameMoves}
 use Rattle.move_phase.specs.declared.turn.Work.{Work}
 use Rattle.move_phase.specs.declared.turn.Turn.{Turn}
+
+-- the second list has an item for each of the first one, which is related to it, in the other order
+pub record AreReversed {A B : Type 0} (related : A → B → Type 0) (xs : List A) (ys : List B) : Type 0 where
+  pub count : length ys ≡ length xs
+  pub each : (i : ℕ) (d : A) (e : B) → i < length xs
+      → related (slice_index_or xs (length xs - 1 - i) d) (slice_index_or ys i e)
 
 -- the commands of a frame
 abbrev pub commands_in : FrameMoves → List Command
@@ -59,15 +65,3 @@ module _ {G : Type 0} where
   -- the turn has this pass, of this frame
   abbrev pub IsTurnOf : FrameMoves → PassView → Turn G → Type 0
   IsTurnOf frame p turn = IsSomeAnd turn.work (λ work. (arc_value work.frame ≡ frame) × (work.pass ≡ p))
-
-  -- the turns have these passes, of this frame, in the other order
-  pub record AreTurnsOf (frame : FrameMoves) (passes : List PassView) (turns : List (Turn G)) : Type 0 where
-    pub count : length turns ≡ length passes
-    pub each : (i : ℕ) (d : PassView) (e : Turn G) → i < length passes
-        → IsTurnOf frame (slice_index_or passes (length passes - 1 - i) d) (slice_index_or turns i e)
-
-  -- the passes are those of these turns, in the other order
-  pub record ArePassesOf (turns : List (Turn G)) (passes : List PassView) : Type 0 where
-    pub count : length passes ≡ length turns
-    pub each : (i : ℕ) (d : PassView) (e : Turn G) → i < length turns
-        → HasPass (slice_index_or turns (length turns - 1 - i) e) (slice_index_or passes i d)

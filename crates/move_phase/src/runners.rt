@@ -4,7 +4,7 @@ ghost use Rattle.packet_read.specs.declared.arrival.TheConstants.{MOST_ARRIVALS}
 ghost use Rattle.entity_recs.specs.Commands.{command_of};
 ghost use Rattle.move_phase.specs.declared.rooms.TheConstants.{MOST_WORKERS};
 ghost use Rattle.crew.specs.Rounds.{ChangesEach};
-ghost use Rattle.move_phase.specs.Turns.{MayServeOn, HasServedOn, AreTurnsOf, ArePassesOf, HasSomePass};
+ghost use Rattle.move_phase.specs.Turns.{MayServeOn, HasServedOn, AreReversed, HasPass, HasSomePass, IsTurnOf};
 
 use crate::frame_moves::FrameMoves;
 use crate::rooms::MOST_WORKERS;
@@ -139,7 +139,7 @@ impl<'a, G: Gate> Team<'a, G> {
         ensures served { ChangesEach (HasServedOn (map command_of moves.now) shared.entry) passes.old.items passes.new.items }
     {
         let Some(frame) = Arc::get_mut(&mut self.frame) else {
-            // Somebody else still has the last frame. It never is so.
+            // The frame before has another owner still. Its turns are dropped by then, so it hasn't in truth.
             run_in_turn(rt, &shared, passes, moves, workers, gate);
             return shared;
         };
@@ -161,7 +161,7 @@ fn give_out<'a, R: Wait, G: Gate>(
 )
     requires none { turns.old.items ≡ [] }
     requires room { length passes.old.items ≤ vec_capacity turns.old }
-    ensures turns { AreTurnsOf (arc_value frame.now) passes.old.items turns.new.items }
+    ensures turns { AreReversed (IsTurnOf (arc_value frame.now)) passes.old.items turns.new.items }
     ensures none { passes.new.items ≡ [] }
     ensures passes_room { vec_capacity passes.new ≡ vec_capacity passes.old }
     ensures turns_room { vec_capacity turns.new ≡ vec_capacity turns.old }
@@ -176,7 +176,7 @@ fn take_back<'a, G: Gate>(turns: &mut Vec<Turn<'a, G>>, passes: &mut PassList<Ma
     requires each { All HasSomePass turns.old.items }
     requires none { passes.old.items ≡ [] }
     requires room { length turns.old.items ≤ vec_capacity passes.old }
-    ensures passes { ArePassesOf turns.old.items passes.new.items }
+    ensures passes { AreReversed HasPass turns.old.items passes.new.items }
     ensures none { turns.new.items ≡ [] }
     ensures turns_room { vec_capacity turns.new ≡ vec_capacity turns.old }
 {
