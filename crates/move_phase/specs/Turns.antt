@@ -1,5 +1,5 @@
 -- The turns of a crew that runs the moves of a frame: each has a pass, which serves its share of them.
-use Rattle.std.specs.Prelude.{◌≡◌, ℕ, ◌-◌, ◌<◌, List, length, map, slice_index_or, Some, IfSome, IsSome, IsSomeAnd}
+use Rattle.std.specs.Prelude.{◌≡◌, ℕ, ◌-◌, ◌<◌, List, length, map, slice_index_or, IfSome, IsSome, IsSomeAnd}
 use Rattle.std.specs.Arc.{arc_value}
 use Rattle.entity_recs.specs.Commands.{Command, command_of}
 use Rattle.arena_actions.specs.declared.map_action.MapAction.{MapAction}

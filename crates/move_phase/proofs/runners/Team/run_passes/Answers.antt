@@ -1,6 +1,5 @@
-use Rattle.std.proofs.Common.{List, take, drop, length, ◌++◌, subst}
+use Rattle.std.proofs.Common.{List, subst}
 use Rattle.std.proofs.lemmas.List.Elements.{All-same}
-use Rattle.ruled_words.specs.Passes.{PassView}
 use Rattle.crew.specs.Rounds.{ChangesEach}
 use Rattle.move_phase.specs.declared.turn.Turn.{Turn}
 use Rattle.move_phase.specs.Turns.{AreReversed, MayRun, HasRun, HasPass, HasSomePass}
