@@ -34,7 +34,7 @@ fn serve<R: Wait, A: Action, G: Gate>(
 {
     if cmd.slot % workers == pass.number() {
         // The entry is the last item of the log of the pass.
-        let _in_its_log = shared.run(rt, pass, cmd, gate);
+        shared.run_into_log(rt, pass, cmd, gate);
     }
 }
 
