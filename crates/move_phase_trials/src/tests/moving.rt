@@ -185,7 +185,11 @@ fn threaded_journal_of(
     play_with(
         rt,
         helpers,
-        &mut || run_and_stop(rt, &mut started, world, moves, &mut runners, &mut journal),
+        &mut ||
+            requires { IfSome started (AreStarted world.now (map_list command_of moves.now))
+                × HasNumbersApart (map_list command_of moves.now)
+                × (journal.entries ≡ []) × (length moves.now ≤ journal.room) }
+        { run_and_stop(rt, &mut started, world, moves, &mut runners, &mut journal) },
     );
     Ok(journal)
 }
