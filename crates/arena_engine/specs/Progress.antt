@@ -20,7 +20,7 @@ use Rattle.out_text.specs.Collecting.{frames_of_events}
 use Rattle.out_text.proofs.Fronts.{AreRun}
 use Rattle.arena_engine.specs.declared.stop.Stop.{Stop}
 use Rattle.arena_engine.specs.declared.feeding.Feeding.{Feeding}
-use Rattle.arena_engine.specs.Feedings.{Last, AreFed, IsLastOf, fed_text}
+use Rattle.arena_engine.specs.Feedings.{Last, AreFed, IsLastOf, MayHaveOrder, fed_text}
 use Rattle.arena_engine.specs.Games.{GameView}
 use Rattle.arena_engine.specs.Texts.{texts_of}
 use Rattle.arena_engine.specs.PlayEnds.{PlaysTo}
@@ -93,3 +93,9 @@ abbrev pub PlaysOn : {S K : Type 0} → sources.Ghosts S → sinks.Ghosts K → 
 PlaysOn {S} {K} s k feeding workers source source' sink sink' demo game event last ended =
     (first_source : S) (first_sink : K) → IsNext s k feeding workers first_source source first_sink sink demo game event
     → PlaysTo s k (texts_of feeding workers) first_source source' first_sink sink' last ended
+
+-- so it was played on, and where packets have no order of arrival, the last frame has none
+pub record PlaysFrom {S K : Type 0} (s : sources.Ghosts S) (k : sinks.Ghosts K) (feeding : Feeding) (workers : ℕ) (source source' : S) (sink sink' : K)
+    (demo : DemoReaderView) (game : GameView) (event : Event) (last : Last) (ended : Result Unit Stop) : Type 0 where
+  pub plays : PlaysOn s k feeding workers source source' sink sink' demo game event last ended
+  pub orders : MayHaveOrder feeding game.last.order → MayHaveOrder feeding last.order

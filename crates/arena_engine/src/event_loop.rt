@@ -3,7 +3,7 @@ ghost use Rattle.arena_map.specs.Maps.{IsMap};
 ghost use Rattle.arena_engine.specs.Games.{new_game};
 ghost use Rattle.arena_engine.specs.Feedings.{MayHaveOrder};
 ghost use Rattle.arena_engine.specs.PlayEnds.{PlaysTo};
-ghost use Rattle.arena_engine.specs.Progress.{MayGoOn, PlaysOn};
+ghost use Rattle.arena_engine.specs.Progress.{MayGoOn, PlaysOn, PlaysFrom};
 ghost use Rattle.arena_engine.specs.Reports.{last_of};
 ghost use Rattle.arena_engine.specs.Texts.{texts_of};
 
@@ -64,9 +64,8 @@ fn play_and_stop<'a, R: Threads + Wait + Sync, S: Source, K: Sink, G: Gate>(
     sink: &mut K,
 ) -> Result<(), Stop>
     requires { MayGoOn S.Source K.Sink feeding host.now.workers source.old sink.old demo.old game.old first.old }
-    ensures plays { PlaysOn S.Source K.Sink feeding host.now.workers source.old source.new sink.old sink.new demo.old
+    ensures { PlaysFrom S.Source K.Sink feeding host.now.workers source.old source.new sink.old sink.new demo.old
         game.old first.old game.new.last result }
-    ensures orders { MayHaveOrder feeding game.old.last.order → MayHaveOrder feeding game.new.last.order }
 {
     let first = mem::replace(first, Event::End);
     let ended = play_events(host, runners, feeding, demo, game, first, source, sink);
@@ -86,15 +85,16 @@ fn play_with_helpers<'a, R: Threads + Wait + Sync, S: Source, K: Sink, G: Gate +
     sink: &mut K,
 ) -> Result<(), Stop>
     requires { MayGoOn S.Source K.Sink feeding host.now.workers source.old sink.old demo.old game.old first }
-    ensures plays { PlaysOn S.Source K.Sink feeding host.now.workers source.old source.new sink.old sink.new demo.old
+    ensures { PlaysFrom S.Source K.Sink feeding host.now.workers source.old source.new sink.old sink.new demo.old
         game.old first game.new.last result }
-    ensures orders { MayHaveOrder feeding game.old.last.order → MayHaveOrder feeding game.new.last.order }
 {
     let (mut runners, helpers) = hire(host, gate);
     play_with(
         host.rt,
         helpers,
-        &mut || {
+        &mut ||
+            requires { MayGoOn S.Source K.Sink feeding host.now.workers source.now sink.now demo.now game.now first }
+        {
             play_and_stop(
                 host,
                 &mut runners,

@@ -94,7 +94,9 @@ fn play_with_helpers<'a, R: Threads + Wait + Sync, G: Gate + Sync>(
     play_with(
         host.rt,
         helpers,
-        &mut || { play_and_stop(host, &mut runners, seed, players, frames, game) },
+        &mut ||
+            requires { IsMatch players frames × (game.now ≡ new_game generated_map) }
+        { play_and_stop(host, &mut runners, seed, players, frames, game) },
     )
 }
 

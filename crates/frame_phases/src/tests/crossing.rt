@@ -1,8 +1,10 @@
 ghost use Rattle.std.specs.Prelude.{◌≡◌, true};
+ghost use Rattle.arena_actions.specs.MapActions.{IsOfItsMap};
 ghost use Rattle.arena_map.specs.MapLines.{IsWithinLimits, is_added};
 
 use super::oracle::{Move, Twins};
 use super::{action, at, spawn};
+use arena_actions::MapAction;
 use arena_map::MapLine;
 use crew::play_with;
 use move_phase::Runners;
@@ -57,18 +59,29 @@ fn join_and_cross<'a>(
     Ok(())
 }
 
-#[test]
-fn crossing_moves(rt: HostRuntime) -> Result<(), Fail> {
-    let action = action(rt.alloc(), &spawn(), &spawn_beside())?;
-    let mut twins = Twins::new(rt.alloc(), &action)?;
-    let (mut runners, helpers) = Runners::with_helpers(rt.alloc(), &NoGate, 1);
+/// The same on two servers of this action's map, with a helper that is kept over all frames.
+fn expect_crossed<'a>(
+    rt: &(impl AllocGlobal + Abort + Threads + Wait + Sync),
+    gate: &'a NoGate,
+    action: &'a MapAction,
+) -> Result<(), Fail>
+    requires { IsOfItsMap action.now }
+{
+    let mut twins = Twins::new(rt.alloc(), action)?;
+    let (mut runners, helpers) = Runners::with_helpers(rt.alloc(), gate, 1);
     play_with(
-        &rt,
+        rt,
         helpers,
         &mut || {
-            let crossed = join_and_cross(&rt, &mut runners, &mut twins);
+            let crossed = join_and_cross(rt, &mut runners, &mut twins);
             runners.stop();
             crossed
         },
     )
+}
+
+#[test]
+fn crossing_moves(rt: HostRuntime) -> Result<(), Fail> {
+    let action = action(rt.alloc(), &spawn(), &spawn_beside())?;
+    expect_crossed(&rt, &NoGate, &action)
 }

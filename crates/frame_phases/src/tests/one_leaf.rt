@@ -1,8 +1,10 @@
 ghost use Rattle.std.specs.Prelude.{◌≡◌, ◌≤◌, true, unsigned_abs};
+ghost use Rattle.arena_actions.specs.MapActions.{IsOfItsMap};
 ghost use Rattle.arena_map.specs.MapLines.{IsWithinLimits, is_added};
 
 use super::oracle::{Move, Twins};
 use super::{action_of, arena, at};
+use arena_actions::MapAction;
 use arena_map::{ArenaMap, MapLine, MapRefusal};
 use crew::play_with;
 use move_phase::Runners;
@@ -65,18 +67,29 @@ fn join_and_stay<'a>(
     twins.play(rt, runners, 16, moves.as_slice(), 16)
 }
 
-#[test]
-fn sixteen_on_one_leaf(rt: HostRuntime) -> Result<(), Fail> {
-    let action = action_of(rt.alloc(), crowded_map(rt.alloc()))?;
-    let mut twins = Twins::new(rt.alloc(), &action)?;
-    let (mut runners, helpers) = Runners::with_helpers(rt.alloc(), &NoGate, 15);
+/// The same on two servers of this action's map, with fifteen helpers.
+fn expect_stayed<'a>(
+    rt: &(impl AllocGlobal + Abort + Threads + Wait + Sync),
+    gate: &'a NoGate,
+    action: &'a MapAction,
+) -> Result<(), Fail>
+    requires { IsOfItsMap action.now }
+{
+    let mut twins = Twins::new(rt.alloc(), action)?;
+    let (mut runners, helpers) = Runners::with_helpers(rt.alloc(), gate, 15);
     play_with(
-        &rt,
+        rt,
         helpers,
         &mut || {
-            let stayed = join_and_stay(&rt, &mut runners, &mut twins);
+            let stayed = join_and_stay(rt, &mut runners, &mut twins);
             runners.stop();
             stayed
         },
     )
+}
+
+#[test]
+fn sixteen_on_one_leaf(rt: HostRuntime) -> Result<(), Fail> {
+    let action = action_of(rt.alloc(), crowded_map(rt.alloc()))?;
+    expect_stayed(&rt, &NoGate, &action)
 }
