@@ -10,3 +10,6 @@ pub mod RoomCounts
 pub mod StartWorlds
 pub mod Journals
 pub mod ArenaMoves
+pub mod Reversing
+pub mod Turns
+pub mod InTurn

@@ -14,11 +14,15 @@ use Rattle.core_steps.specs.Nodes.{Fixed}
 use Rattle.ruled_words.specs.Starts.{fixed_by}
 use Rattle.ruled_words.specs.Passes.{PassView, TableView, IsPassOf, fixed_in, setting_of}
 use Rattle.ruled_words.specs.NewPasses.{new_passes, first_pass}
-use Rattle.shared_moves.specs.Closing.{IsClosed, log_from}
+use Rattle.shared_moves.specs.Closing.{HasNoCommand, IsClosed, log_from}
 use Rattle.move_phase.specs.Serving.{served_by, entries_from}
 use Rattle.move_phase.specs.Running.{AreOfLive, HasServed, HaveRoom, HaveRun}
 use Rattle.move_phase.specs.Sharing.{IsReadyFor}
-use Rattle.move_phase.proofs.NewPasses.{IsNew, new_at, new_count, rooms_are}
+use Rattle.move_phase.specs.Starting.{fixed_of_arena}
+use Rattle.move_phase.specs.Turns.{MayServeOn, HasServedOn}
+use Rattle.crew.specs.Rounds.{ChangesEach}
+use Rattle.arena_actions.specs.declared.map_action.MapAction.{MapAction}
+use Rattle.move_phase.proofs.NewPasses.{IsNew, new_at, new_count, rooms_are, may_serve}
 
 -- what doesn't change of a table is what its action and its world give
 pub fixed_is : {A : Type 0} (meaning : A → Meaning)
@@ -70,6 +74,13 @@ module _ (F : Fixed) (table : TableId) (commands : List Command) (rooms : List �
       ∙ number_at i first (inside i within_new)
       ∙ sym (get_or-range_with_len 0 (length rooms) i 0 (inside i within_new) ∙ from_zero i))
 
+  -- all belong to the table still, and have no command in hand
+  pub all_own : All (IsPassOf F (length rooms) table) new
+  all_own i d within = let c = are.count in (are.each i d (omega (arith, c, within))).own
+
+  pub all_rest : All HasNoCommand new
+  all_rest i d within = let c = are.count in (are.each i d (omega (arith, c, within))).rests
+
   -- each log has the commands of its pass
   log_at : (i : ℕ) (d : PassView) → i < length rooms → commands_of (slice_index_or new i d).view.log ≡ served_by (length rooms) i commands
   log_at i d within =
@@ -90,6 +101,33 @@ module _ (F : Fixed) (table : TableId) (commands : List Command) (rooms : List �
         ap commands_of (get_or-map (λ (p : PassView). p.view.log) new i first d within_new) ∙ log_at i first within;
     closed = closed;
   }
+
+-- the passes of a new table may serve their shares
+pub all_may_serve : (table : TableView MapAction) (workers : ℕ) (commands : List Command) (passes : List PassView) → 0 < workers
+    → IsReadyFor (fixed_of_arena table.action table.world) workers commands table.table table.rooms passes → All (MayServeOn workers commands table) passes
+all_may_serve table workers commands passes some ready i d within =
+    let c = ready.count in
+    record {
+      workers_are = sym ready.count;
+      some = some;
+      may = may_serve (fixed_of_arena table.action table.world) table.table commands table.rooms passes ready.begun (omega (arith, c, some)) ready.own ready.room i d within;
+      live = ready.live;
+    }
+
+-- there are as many as workers
+pub ready_count : (F : Fixed) (table : TableId) (workers : ℕ) (commands : List Command) (rooms : List ℕ) (passes : List PassView) → 0 < workers
+    → IsReadyFor F workers commands table rooms passes → length passes ≡ workers
+ready_count F table workers commands rooms passes some ready =
+    let c = ready.count in
+    ap length ready.begun ∙ new_count table (setting_of F) rooms (omega (arith, c, some)) ∙ ready.count
+
+-- they have served them
+pub are_served : (table : TableView MapAction) (workers : ℕ) (commands : List Command) (old new : List PassView) → 0 < workers
+    → IsReadyFor (fixed_of_arena table.action table.world) workers commands table.table table.rooms old → ChangesEach (HasServedOn commands table) old new
+    → AreServed (fixed_of_arena table.action table.world) table.table commands table.rooms old new
+are_served table workers commands old new some ready served =
+    let c = ready.count in
+    record { begun = ready.begun; some = omega (arith, c, some); count = served.count; each = served.each }
 
 -- what a new table and its passes are ready for
 pub ready_for : (F : Fixed) (table : TableId) (workers k : ℕ) (commands : List Command) (all rooms : List ℕ) (passes : List PassView) → k ≡ workers → HaveRoom workers commands all → rooms ≡ take k all

@@ -7,3 +7,4 @@ pub mod Serving
 pub mod Running
 pub mod Sharing
 pub mod Starting
+pub mod Turns

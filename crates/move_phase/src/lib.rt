@@ -2,11 +2,14 @@
 #![tactic(auto)]
 
 pub use rooms::MOST_WORKERS;
-pub use runners::{Runners, Turn};
+pub use runners::Runners;
 pub use started::StartedMoves;
+pub use turn::Turn;
 
+mod frame_moves;
 mod rooms;
 mod runners;
 mod serve;
 mod started;
+mod turn;
 mod workers;

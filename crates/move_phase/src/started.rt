@@ -15,7 +15,6 @@ use shared_moves::{Gate, PassList, Shared};
 use std::alloc::{AllocError, Global};
 use std::marker::Model;
 use std::sync::Wait;
-use std::thread::Threads;
 use world_tree::World;
 
 /// A world that is shared, and the passes of the workers that run moves on it.
@@ -111,7 +110,7 @@ impl<'a> StartedMoves<'a> {
 
     /// Runs the moves, and puts what was done into the journal, by place. Slot p is served by worker p mod the number of
     /// workers, which runs its moves in the order of arrival. It takes no memory, and can't be refused.
-    pub fn run<R: Threads + Wait + Sync, G: Gate>(
+    pub fn run<R: Wait, G: Gate>(
         self,
         rt: &R,
         world: &mut World,
@@ -142,14 +141,7 @@ impl<'a> StartedMoves<'a> {
             return;
         };
         run_on_workers(
-            rt,
-            shared,
-            passes,
-            world,
-            moves,
-            workers,
-            runners.gate,
-            &mut logs,
+            rt, shared, passes, world, moves, workers, runners, &mut logs,
         );
         merge(logs.as_slice(), journal);
     }

@@ -7,16 +7,18 @@ ghost use Rattle.ruled_words.specs.Passes.{fixed_in};
 ghost use Rattle.ruled_words.specs.Starts.{fixed_by};
 ghost use Rattle.move_phase.specs.declared.rooms.TheConstants.{MOST_WORKERS};
 ghost use Rattle.move_phase.specs.Running.{AreOfLive, HaveRun};
+ghost use Rattle.move_phase.specs.Serving.{AreWorkers};
+ghost use Rattle.move_phase.specs.Starting.{fixed_of_arena};
 ghost use Rattle.move_phase.specs.Sharing.{IsReadyFor};
 
 use crate::rooms::rooms;
-use crate::serve::run_passes;
+use crate::runners::Runners;
+use arena_actions::MapAction;
 use entity_recs::{Action, Cmd};
 use move_journal::LogList;
 use shared_moves::{Gate, PassList, Shared};
 use std::alloc::{AllocError, Global};
 use std::sync::Wait;
-use std::thread::Threads;
 use world_tree::World;
 
 /// Shares the world among so many workers, each with a pass that has room for just the moves that it serves. The only
@@ -44,26 +46,26 @@ pub(crate) fn share<'a, A: Action>(
 
 /// Runs the moves on a world that was shared for them, and gives what was done to the world and to the empty list of
 /// logs. It takes no memory.
-pub(crate) fn run_on_workers<R: Threads + Wait + Sync, A: Action, G: Gate>(
+pub(crate) fn run_on_workers<'a, R: Wait, G: Gate>(
     rt: &R,
-    shared: Shared<A>,
-    mut passes: PassList<A>,
+    shared: Shared<'a, MapAction>,
+    mut passes: PassList<MapAction>,
     world: &mut World,
     moves: &[Cmd],
     workers: u8,
-    gate: &G,
+    runners: &mut Runners<'a, G>,
     logs: &mut LogList,
 )
-    requires workers { 0 < workers }
-    requires ready { IsReadyFor (fixed_in A.meaning shared) workers (map command_of moves.now)
+    requires workers { AreWorkers workers }
+    requires ready { IsReadyFor (fixed_of_arena shared.action shared.world) workers (map command_of moves.now)
         shared.table shared.rooms passes.items }
     requires world { world.old ≡ shared.world }
     requires logs { logs.old ≡ [] }
-    ensures ran { HaveRun (fixed_in A.meaning shared.entry) workers (map command_of moves.now)
+    ensures ran { HaveRun (fixed_of_arena shared.entry.action shared.entry.world) workers (map command_of moves.now)
         logs.new world.new }
     ensures tree { world.new.tree ≡ world.old.tree }
     ensures linked { IsLinked world.new }
 {
-    run_passes(rt, &shared, &mut passes, moves, workers, gate);
+    let shared = runners.run_passes(rt, shared, &mut passes, moves, workers);
     shared.close(passes, world, logs);
 }

@@ -4,9 +4,15 @@ use crate::moment::Moment;
 use entity_recs::Entry;
 
 /// Who is called while moves run, by the thread that runs them: a test that holds a worker, for example.
-pub trait Gate: Sync {
+pub trait Gate {
     /// The move is at this moment. It goes on once this returns.
     fn at(&self, moment: &Moment);
+
+    /// Whether each pass must have a thread of its own where one can be made, however few moves a frame has: so for a test
+    /// that holds one.
+    fn needs_threads(&self) -> bool {
+        false
+    }
 }
 
 /// Calls the gate at this moment, and gives the moment's entry back, if it has one.
