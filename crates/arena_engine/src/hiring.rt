@@ -10,8 +10,7 @@ use std::thread::Threads;
 /// for a thread for each.
 fn helper_count<R: Threads + Wait + Sync, G: Gate>(host: &Host<R>, gate: &G) -> usize {
     let others = usize::from(host.workers) - 1;
-    let _ = gate;
-    if others == 0 {
+    if others == 0 || gate.needs_threads() {
         return others;
     }
     match thread::available_parallelism(host.rt) {
