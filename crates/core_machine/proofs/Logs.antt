@@ -1,9 +1,9 @@
 -- Items of commands and entries.
-use Rattle.std.proofs.Common.{◌≡◌, List, [], ◌∷◌, ◌++◌, length, refl, ap, arith}
+use Rattle.std.proofs.Common.{◌≡◌, List, [], ◌∷◌, ◌++◌, length, map, refl, ap, arith}
 use Rattle.entity_recs.specs.declared.cmd.Cmd.{Cmd}
 use Rattle.entity_recs.specs.declared.effect.Entry.{Entry}
-use Rattle.entity_recs.specs.Commands.{command_of}
-use Rattle.entity_recs.specs.Histories.{Item}
+use Rattle.entity_recs.specs.Commands.{Command, command_of}
+use Rattle.entity_recs.specs.Histories.{Item, commands_of}
 use Rattle.core_seats.specs.Logs.{entries_of}
 use Rattle.core_machine.specs.SeatLogs.{items_of}
 
@@ -13,6 +13,14 @@ items_of-length [] [] same = refl
 items_of-length [] (e ∷ entries) same = omega arith
 items_of-length (c ∷ commands) [] same = omega arith
 items_of-length (c ∷ commands) (e ∷ entries) same = omega (arith, items_of-length commands entries (omega arith))
+
+pub commands_of-items : (commands : List Cmd) (entries : List Entry) → length commands ≡ length entries
+    → map command_of commands ≡ commands_of (items_of commands entries)
+commands_of-items [] [] same = refl
+commands_of-items [] (e ∷ entries) same = absurd (omega arith)
+commands_of-items (c ∷ commands) [] same = absurd (omega arith)
+commands_of-items (c ∷ commands) (e ∷ entries) same =
+    ap (λ (cs : List Command). command_of c ∷ cs) (commands_of-items commands entries (omega arith))
 
 pub entries_of-items : (commands : List Cmd) (entries : List Entry) → length commands ≡ length entries
     → entries_of (items_of commands entries) ≡ entries

@@ -24,8 +24,9 @@ impl Model for SeatLog {
 }
 
 impl SeatLog {
-    ghost use Rattle.std.specs.Prelude.{◌≡◌, ◌<◌, [], ◌∷◌, ◌++◌, length, IfOk, vec_capacity};
+    ghost use Rattle.std.specs.Prelude.{◌≡◌, ◌<◌, [], ◌∷◌, ◌++◌, length, map, IfOk, vec_capacity};
     ghost use Rattle.entity_recs.specs.Commands.{command_of};
+    ghost use Rattle.entity_recs.specs.Histories.{commands_of};
     ghost use Rattle.move_journal.specs.Logs.{journal_view};
     ghost use Rattle.core_seats.specs.Logs.{entries_of};
 
@@ -37,6 +38,13 @@ impl SeatLog {
             commands: Vec::with_capacity(alloc, room as usize)?,
             entries: EntryLog::new(alloc, room)?,
         })
+    }
+
+    /// The commands, in the order in which they were committed.
+    pub fn commands(&self) -> &[Cmd]
+        ensures { map command_of result.now ≡ commands_of self.now.items }
+    {
+        self.commands.as_slice()
     }
 
     /// The entries, in the order in which the commands were committed.

@@ -67,8 +67,9 @@ impl<'a, A: Action> Model for Core<'a, A> {
 
 impl<'a, A: Action> Core<'a, A> {
     ghost use Rattle.std.specs.Prelude.{◌≡◌, ◌≤◌, ◌<◌, ◌==◌, ◌++◌, ◌∷◌, ◌↔◌, ℕ, List, true, false, length, is_some};
-    ghost use Rattle.std.specs.Prelude.{if◌then◌else◌, IsTrue, IfOk};
+    ghost use Rattle.std.specs.Prelude.{if◌then◌else◌, IsTrue, IfOk, map};
     ghost use Rattle.entity_recs.specs.Commands.{command_of};
+    ghost use Rattle.entity_recs.specs.Histories.{commands_of};
     ghost use Rattle.core_steps.specs.Steps.{is_taking, refuse_node};
     ghost use Rattle.core_steps.specs.Stands.{IsStart};
     ghost use Rattle.core_steps.specs.Machine.{Next, next_of, next_step_of, machine_after, items_after};
@@ -208,6 +209,15 @@ impl<'a, A: Action> Core<'a, A> {
             result.now ≡ entries_of ((machine_of F self.now).core.view seat).log }
     {
         self.seats[usize::from(seat)].log.entries()
+    }
+
+    /// The commands that the seat has committed, in their order.
+    pub fn commands(&self, seat: u8) -> &[Cmd]
+        requires { seat < length self.now.seats }
+        ensures { let F = fixed_of A.meaning self.now.rules in
+            map command_of result.now ≡ commands_of ((machine_of F self.now).core.view seat).log }
+    {
+        self.seats[usize::from(seat)].log.commands()
     }
 
     /// What holds of the core between any two calls: the machine is valid.

@@ -49,6 +49,9 @@ fn check_place<A: Action>(
 {
     let seat = seat_at(core, place).ok_or("a place without an entry")?;
     let cmd = command(seat, buttons_of(seat, away));
+    if core.commands(seat) != [cmd].as_slice() {
+        return Err("another command".into());
+    }
     let effect = outcome_in(alloc, world, &cmd)?.ok_or("an outcome")?;
     if !core
         .log(seat)
