@@ -9,17 +9,17 @@ use Rattle.frame_phases.proofs.Frames.{AreRun, few_moves, apart_moves, live_afte
 use Rattle.frame_phases.proofs.phases.finish_frame.Goals as goal
 
 pub run-requires-clause-started : goal.run-requires-clause-started
-run-requires-clause-started g c κs within =
+run-requires-clause-started g c =
     subst (λ (cs : List Command). AreStarted c.args.states.now.next.world cs c.args.started) (sym c.moves.ensures) c.requires.begun.moves
 
 pub run-requires-clause-apart : goal.run-requires-clause-apart
-run-requires-clause-apart g c κs within =
+run-requires-clause-apart g c =
     let next = c.args.states.now.next in
     let r = receiving_of (state_of next.ports next.world.records) c.args.out.now.received.lists in
     apart_moves (map_in c.args.started.action) r c.moves.result.now c.moves.ensures c.requires.begun.got
 
 pub run-requires-clause-room : goal.run-requires-clause-room
-run-requires-clause-room g c κs within =
+run-requires-clause-room g c =
     let next = c.args.states.now.next in
     let r = receiving_of (state_of next.ports next.world.records) c.args.out.now.received.lists in
     omega (arith, few_moves (map_in c.args.started.action) r c.moves.result.now c.moves.ensures c.requires.begun.got, c.args.out.now.journal_fits)
