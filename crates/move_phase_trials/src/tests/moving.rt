@@ -1,4 +1,4 @@
-ghost use Rattle.std.specs.Prelude.{◌≡◌, ◌≤◌, [], length, map as map_list, true, All, IfOk, IfSome};
+ghost use Rattle.std.specs.Prelude.{◌≡◌, ◌≤◌, length, map as map_list, true, All, IfOk};
 ghost use Rattle.entity_recs.specs.Commands.{command_of};
 ghost use Rattle.arena_map.specs.MapLines.{IsWithinLimits, is_added};
 ghost use Rattle.arena_map.specs.Maps.{IsMap};
@@ -8,18 +8,16 @@ ghost use Rattle.move_journal.specs.Merges.{HasNumbersApart};
 ghost use Rattle.plain_server.specs.Moving.{HasLivePlayer};
 ghost use Rattle.world_tree.specs.Worlds.{IsLinked};
 ghost use Rattle.move_phase.specs.Serving.{AreWorkers};
-ghost use Rattle.move_phase.specs.Starting.{AreStarted};
 
 use super::{arena, arrival, at};
 use arena_actions::MapAction;
 use arena_map::{ArenaMap, MapLine, MapRefusal};
 use client_ports::{Ports, Received};
-use crew::play_with;
 use entity_recs::{Cmd, Entry, Kind};
 use move_journal::Journal;
 use move_phase::{Runners, StartedMoves};
 use packet_read::Arrival;
-use shared_moves::{Gate, Moment, NoGate};
+use shared_moves::NoGate;
 use std::alloc::{AllocError, AllocGlobal, Global};
 use std::process::Abort;
 use std::sync::Wait;
@@ -129,71 +127,6 @@ fn journal_of(
     Ok(journal)
 }
 
-/// A gate that does nothing, and wants a thread for each pass.
-struct ThreadedGate;
-
-impl Gate for ThreadedGate {
-    fn at(&self, moment: &Moment) {
-        let _ = moment;
-    }
-
-    fn needs_threads(&self) -> bool {
-        true
-    }
-}
-
-/// Runs the moves, if they were started, and sends the helpers away.
-fn run_and_stop<'a, R: Wait>(
-    rt: &R,
-    started: &mut Option<StartedMoves<'a>>,
-    world: &mut World,
-    moves: &[Cmd],
-    runners: &mut Runners<'a, ThreadedGate>,
-    journal: &mut Journal,
-)
-    requires started { IfSome started.old (AreStarted world.old (map_list command_of moves.now)) }
-    requires apart { HasNumbersApart (map_list command_of moves.now) }
-    requires empty { journal.old.entries ≡ [] }
-    requires room { length moves.now ≤ journal.old.room }
-{
-    if let Some(started) = started.take() {
-        started.run(rt, world, moves, runners, journal);
-    }
-    runners.stop();
-}
-
-/// Runs these moves on so many workers, each with a thread of its own, and gives the journal.
-fn threaded_journal_of(
-    rt: &(impl AllocGlobal + Abort + Threads + Wait + Sync),
-    map: ArenaMap,
-    world: &mut World,
-    moves: &[Cmd],
-    workers: u8,
-) -> Result<Journal, Fail>
-    requires workers { AreWorkers workers }
-    requires valid { IsValidWorld map world.old.records }
-    requires live { All (HasLivePlayer world.old.records) (map_list command_of moves.now) }
-    requires apart { HasNumbersApart (map_list command_of moves.now) }
-    requires few { length moves.now ≤ 512 }
-{
-    let mut journal = Journal::new(rt.alloc(), 512)?;
-    let action = MapAction::new(map);
-    let started = StartedMoves::start(rt.alloc(), &action, world, moves, workers)?;
-    let mut started = Some(started);
-    let others = usize::from(workers) - 1;
-    let (mut runners, helpers) = Runners::with_helpers(rt.alloc(), &ThreadedGate, others);
-    play_with(
-        rt,
-        helpers,
-        &mut ||
-            requires { IfSome started (AreStarted world.now (map_list command_of moves.now))
-                × HasNumbersApart (map_list command_of moves.now)
-                × (journal.entries ≡ []) × (length moves.now ≤ journal.room) }
-        { run_and_stop(rt, &mut started, world, moves, &mut runners, &mut journal) },
-    );
-    Ok(journal)
-}
-
 /// Runs the two moves on so many workers in one thread, and gives the journal.
 #[tactic(auto, using(client_ports::proofs::Rooms::room_enough))]
 fn reach(
@@ -207,18 +140,6 @@ fn reach(
     let mut received = Received::new(rt.alloc(), 4)?;
     receive(&map, &mut world, &mut received);
     journal_of(rt, map, &mut world, received.moves(), workers)
-}
-
-/// Runs the two moves on two workers, each with a thread of its own, and gives the journal.
-#[tactic(auto, using(client_ports::proofs::Rooms::room_enough))]
-fn reach_by_threads(
-    rt: &(impl AllocGlobal + Abort + Threads + Wait + Sync),
-) -> Result<Journal, Fail> {
-    let map = item_map(rt.alloc()).map_err(|_| "a map")?;
-    let mut world = opening(rt.alloc(), &map)?;
-    let mut received = Received::new(rt.alloc(), 4)?;
-    receive(&map, &mut world, &mut received);
-    threaded_journal_of(rt, map, &mut world, received.moves(), 2)
 }
 
 /// Compares an entry of the player that joined first or second, which has come nearer to the item.
@@ -255,12 +176,4 @@ fn one_worker_runs_moves_in_their_order(rt: HostRuntime) -> Result<(), Fail> {
 #[test]
 fn two_workers_in_one_thread_have_one_taker(rt: HostRuntime) -> Result<(), Fail> {
     expect_one_taker(&rt, &reach(&rt, 2)?)
-}
-
-#[test]
-fn two_workers_have_one_taker(rt: HostRuntime) -> Result<(), Fail> {
-    for _ in 0..20 {
-        expect_one_taker(&rt, &reach_by_threads(&rt)?)?;
-    }
-    Ok(())
 }
