@@ -108,7 +108,7 @@ fn run_turns<T: Task, R: Wait>(rt: &R, desks: &mut [Desk<T>], items: &mut [T])
     run_turns(rt, desks, later);
 }
 
-/// Runs each of these items once: this one here, and one at each desk.
+/// Runs each of these items once: this one here, and the lent ones at the first desks.
 fn run_turn<T: Task, R: Wait>(rt: &R, desks: &mut [Desk<T>], lent: &mut [T], own: &mut T)
     requires free { All (λ d. IsFree d.seat.me) desks.old }
     requires may { All T.may_run lent.old × T.may_run own.old }
