@@ -54,7 +54,7 @@ mod summary;
 /// line where that is right; it keeps one frame of the log. `help` and `--help` write what the words and the statuses are,
 /// `version` and `--version` the version, and read nothing.
 ///
-/// The moves of a frame run at the same time, where there is more than one worker, and each frame's journal has them
+/// Where there is more than one worker the moves of a frame may run at the same time, and each frame's journal has them
 /// one after another: its entries are those of the moves run in this order. One worker runs them in the order of
 /// arrival. `gate` is called at three points of each move by the worker that runs it.
 ///
