@@ -8,8 +8,8 @@ pub trait Gate {
     /// The move is at this moment. It goes on once this returns.
     fn at(&self, moment: &Moment);
 
-    /// Whether passes are offered to helpers, as many as there are passes but one, however few moves a frame has: so for
-    /// a test that holds one. A pass that no helper has begun in time is run by the calling thread.
+    /// Whether passes are offered to helpers, as many as there are passes but one, however few moves a frame has: so
+    /// for a test that holds one. A pass that no helper has begun in time is run by the calling thread.
     fn needs_threads(&self) -> bool {
         false
     }
