@@ -46,13 +46,13 @@ mod summary;
 /// lost and commands are resent. `match SEED PLAYERS FRAMES N` plays the recording of a seed on N workers without writing
 /// it, and writes one line of what its frames came to. None of the three reads. `walk SEED PLAYERS FRAMES` reads the lines
 /// of a map up to the first `frame` or `end`, and writes a recording of that map in which players join and walk by the
-/// words of the seed. `bots TARGET` reads a recording from the
-/// source, and writes one of the same map in which a bot walks the shortest way from spawn 0 to spawn TARGET, with the
-/// way and the least lengths after its line `end`. `check` reads a recording of at most 2,000 frames and what follows
-/// it, and writes one line where that is an output of the recording; what follows the line `end K` of the output isn't
-/// looked at. `audit` reads the lines of a map and the log of a match after them, as `feed` writes it, and writes the same
-/// line where that is right; it keeps one frame of the log. `help` and `--help` write what the words and the statuses are,
-/// `version` and `--version` the version, and read nothing.
+/// words of the seed. `bots TARGET` reads a recording from the source, and writes one of the same map in which a bot
+/// walks the shortest way from spawn 0 to spawn TARGET, with the way and the least lengths after its line `end`.
+/// `check` reads a recording of at most 2,000 frames and what follows it, and writes one line where that is an output of
+/// the recording; what follows the line `end K` of the output isn't looked at. `audit` reads the lines of a map and the
+/// log of a match after them, as `feed` writes it, and writes the same line where that is right; it keeps one frame of the
+/// log. `help` and `--help` write what the words and the statuses are, `version` and `--version` the version, and read
+/// nothing.
 ///
 /// Where there is more than one worker the moves of a frame may run at the same time, and each frame's journal has them
 /// one after another: its entries are those of the moves run in this order. One worker runs them in the order of
@@ -61,8 +61,8 @@ mod summary;
 /// The report's status says how it ended:
 ///
 /// - 0: the recording was read to its line `end`, and its whole output was written; or the recording that was made or
-/// resent, or that walks on the map, or the line of the match, was written whole; or what a way comes to was; or the output or the log that was judged
-/// is right; or what explains the program was written.
+/// resent, or that walks on the map, or the line of the match, was written whole; or what a way comes to was; or the
+/// output or the log that was judged is right; or what explains the program was written.
 /// - 1: a line of the recording has a fault; the report has the number of the first one, its first fault, and the rule
 /// of the map that it breaks. The frames that were closed before it are written.
 /// - 2: the words ask for nothing. Nothing is read or written.

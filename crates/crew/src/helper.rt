@@ -21,7 +21,7 @@ pub struct Helper<T: Task> {
     ghost idle: { IsIdle seat.me },
 }
 
-/// The helpers of a crew that has not begun.
+/// The helpers of a crew, before they help.
 #[derive(Drop)]
 pub struct Helpers<T: Task> {
     pub(crate) helpers: Vec<Helper<T>>,

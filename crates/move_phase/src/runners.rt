@@ -18,7 +18,7 @@ use shared_moves::{Gate, PassList, Shared};
 use std::alloc::{AllocError, Global};
 use std::sync::{Arc, Wait};
 
-/// From how many moves of a frame on helpers are used: to wake them takes about as long as to run these.
+/// A frame of fewer moves is run without helpers: to wake them takes about as long as to run these.
 const MOVES_WORTH_HELPERS: usize = 96;
 
 /// Who runs the moves of frames: the thread that calls, and the helpers of a crew, which are kept over frames. Each move
