@@ -61,8 +61,8 @@ mod summary;
 /// The report's status says how it ended:
 ///
 /// - 0: the recording was read to its line `end`, and its whole output was written; or the recording that was made or
-/// resent, or that walks on the map, or the line of the match, was written whole; or what a way comes to was; or the output or the log that was judged
-/// is right; or what explains the program was written.
+/// resent, or that walks on the map, or the line of the match, was written whole; or what a way comes to was; or the
+/// output or the log that was judged is right; or what explains the program was written.
 /// - 1: a line of the recording has a fault; the report has the number of the first one, its first fault, and the rule
 /// of the map that it breaks. The frames that were closed before it are written.
 /// - 2: the words ask for nothing. Nothing is read or written.
@@ -92,7 +92,7 @@ pub fn serve<R: Threads + Wait + Sync, S: Source, K: Sink, G: Gate + Sync>(
     // Only what client threads sent has an order of arrival.
     ensures orders { (command : Command) → AskFor words.now command → HasNoOrder result command }
     ensures no_order { result.status ≡ 2 → result.order ≡ None }
-    // What explains the program takes no memory.
+    // What explains the program never ends with want of memory.
     ensures memory { (command : Command) → AskFor words.now command → NeverLacksMemory result command }
     // Status 2 is that of words that ask for nothing.
     ensures words { (result.status ≡ 2) ↔ AskForNothing words.now }
