@@ -92,7 +92,7 @@ pub fn serve<R: Threads + Wait + Sync, S: Source, K: Sink, G: Gate + Sync>(
     // Only what client threads sent has an order of arrival.
     ensures orders { (command : Command) → AskFor words.now command → HasNoOrder result command }
     ensures no_order { result.status ≡ 2 → result.order ≡ None }
-    // What explains the program takes no memory.
+    // What explains the program never ends with want of memory.
     ensures memory { (command : Command) → AskFor words.now command → NeverLacksMemory result command }
     // Status 2 is that of words that ask for nothing.
     ensures words { (result.status ≡ 2) ↔ AskForNothing words.now }

@@ -58,9 +58,9 @@ pub fn commands_in_hand_are_seen()
 {}
 
 /// Of any rounds, one after another, at most as many begin with a command in hand as there were steps left, and 24,471
-/// and two for each live id for each command that is given in them. In a round each seat that can step as it begins makes its next step at least
-/// once, in any order, whether it is served by then or not; commands may be given, and seats asked to give up, at any
-/// time.
+/// and two for each live id for each command that is given in them. In a round each seat that can step as it begins
+/// makes its next step at least once, in any order, whether it is served by then or not; commands may be given, and
+/// seats asked to give up, at any time.
 pub fn busy_rounds_are_few()
     ensures { BusyRoundsAreFew }
 {}

@@ -14,7 +14,8 @@ pub fn node_word(node: u8) -> u16
     FIRST_NODE_WORD + u16::from(node)
 }
 
-/// The index of the list word of a node, below [`TABLE_NODES`](crate::TABLE_NODES), of which bit p is set where player p is linked there.
+/// The index of the list word of a node, below [`TABLE_NODES`](crate::TABLE_NODES), of which bit p is set where player
+/// p is linked there.
 pub fn list_word(node: u8) -> u16
     ensures { result ≡ links_index node }
 {

@@ -80,7 +80,8 @@ fn check_places<A: Action>(alloc: Global, core: &Core<A>, away: u8) -> Result<()
     Ok(())
 }
 
-/// Runs one random schedule over a tree of this depth to its end, and compares its replies with those of the commands in a row.
+/// Runs one random schedule over a tree of this depth to its end, and compares its replies with those of the commands
+/// in a row.
 fn try_schedule(alloc: Global, depth: u8, number: u64) -> Result<u64, Fail>
     requires { IsTreeDepth depth }
 {

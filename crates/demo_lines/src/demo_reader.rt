@@ -9,8 +9,8 @@ use edge_io::{LineBuf, LineReader, Source};
 use std::alloc::{AllocError, Global};
 use std::marker::Model;
 
-/// Reads a recording from a source, one event after another, and then what follows it, line by line. It holds a buffer of input, one line of it, and the map
-/// until it is taken.
+/// Reads a recording from a source, one event after another, and then what follows it, line by line. It holds a buffer
+/// of input, one line of it, and the map until it is taken.
 #[derive(Drop)]
 pub struct DemoReader {
     lines: LineReader,

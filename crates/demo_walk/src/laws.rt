@@ -20,8 +20,9 @@ pub fn places_are_known()
     ensures { PlacesAreKnown }
 {}
 
-/// Where the map has S places, min(P, S * (f + 64) / 64) of P players have joined by frame f: in frame 0 S of them, or
-/// all. Each joins once, and moves once in each frame from that of its join on.
+/// Where the map has S places, min(P, S * (f + 64) / 64) of P players have sent a join by frame f: in frame 0 S of
+/// them, or all. Each sends one, and a move in each frame from that of its join on. That a later join is accepted isn't
+/// said.
 pub fn joins_are_known()
     ensures { JoinsAreKnown }
 {}

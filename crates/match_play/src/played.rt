@@ -16,7 +16,8 @@ use std::thread::Threads;
 // The game is lent, since no clause over an answer alone could say that none of its journals is lost where memory is
 // refused.
 /// Plays the recording of this seed, with 1 to 64 players and 1 to 2,000 frames, without writing it: the same packets
-/// come in the same frames. One worker runs the moves of a frame in the order of arrival. It takes no memory that grows with the number of frames but that for their journals.
+/// come in the same frames. One worker runs the moves of a frame in the order of arrival. It takes no memory that grows
+/// with the number of frames but that for their journals.
 ///
 /// The game is a new one. Whatever the outcome, it has the journal of each frame that its server has run, in their
 /// order. The answer is what the frames came to; the only error is that memory is refused.

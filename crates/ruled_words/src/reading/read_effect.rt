@@ -46,8 +46,9 @@ impl<'a, A: Action> SharedWords<'a, A> {
     }
 
     /// Loads the states of the things of the map that the region touches, once all lists are read, and gives the effect of
-    /// the command: what the action gives on what was loaded. `again` is the own record as it was loaded again, and `by_slot`
-    /// the words of the players in `seen`. The near list is only room, for 64 records and all that live at the start.
+    /// the command: what the action gives on what was loaded. `again` is the own record as it was loaded again, and
+    /// `by_slot` the words of the players in `seen`. The near list is only room, for 64 records and all that live at
+    /// the start.
     pub fn read_effect(
         &self,
         hand: &mut Hand,
