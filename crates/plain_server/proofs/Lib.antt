@@ -33,3 +33,4 @@ pub mod Decided
 pub mod Takers
 pub mod SlotPlayers
 pub mod Numbers
+pub mod FirstTick

@@ -12,9 +12,11 @@ use Rattle.arena_outcomes.specs.Outcomes.{outcome_on}
 use Rattle.world_tree.specs.Live.{record_at}
 use Rattle.packet_read.specs.declared.arrival.Arrival.{Arrival}
 use Rattle.client_ports.specs.Clients.{client_at, AreClients}
-use Rattle.client_ports.specs.States.{State, IsServerState}
-use Rattle.client_ports.specs.Receiving.{Receiving}
+use Rattle.client_ports.specs.States.{State, IsServerState, state_of}
+use Rattle.client_ports.specs.Lists.{no_lists}
+use Rattle.client_ports.specs.Receiving.{Receiving, receiving_of, after_arrival}
 use Rattle.client_ports.specs.Finishing.{is_leaver}
+use Rattle.world_physics.specs.Ticks.{after_tick}
 use Rattle.plain_server.specs.RecordsById.{world_of, records_in, opening}
 use Rattle.plain_server.specs.Moving.{HasLivePlayer}
 use Rattle.plain_server.specs.Entries.{AreReported, HasBytes}
@@ -188,3 +190,10 @@ pub record FramesEndWithTheirMoves : Type 0 where
       → let r = received_in map frame state arrivals in
       (id : ℕ) → is_leaver (client_at r.state.clients id) ≡ true
       → record_at (state_after map r journal).records id ≡ None
+
+-- a frame begins with its tick: its first packet is taken in the world after it, and without packets nothing else is
+pub record FramesBeginWithTheirTick : Type 0 where
+  pub alone : (map : MapView) (frame : ℕ) (state : State) → received_in map frame state []
+      ≡ receiving_of (state_of state.clients (after_tick map frame state.records)) no_lists
+  pub first : (map : MapView) (frame : ℕ) (state : State) (a : Arrival) → received_in map frame state (a ∷ [])
+      ≡ after_arrival map frame (receiving_of (state_of state.clients (after_tick map frame state.records)) no_lists) 0 a

@@ -1,7 +1,7 @@
 ghost use Rattle.plain_server.specs.Laws.{OpeningIsAsTheMapSays};
 ghost use Rattle.plain_server.specs.Laws.{MovesKeepWorldsValid, WorldsStayValid, PortsStayApart, PlayersKeepRoom};
 ghost use Rattle.plain_server.specs.Laws.{FramesAreInTurn, JournalsAreRightInOrder, OrderLeavesOneJournalEach};
-ghost use Rattle.plain_server.specs.Laws.{RightJournalsAreInRange, FramesEndWithTheirMoves};
+ghost use Rattle.plain_server.specs.Laws.{RightJournalsAreInRange, FramesBeginWithTheirTick, FramesEndWithTheirMoves};
 ghost use Rattle.plain_server.specs.Laws.{FramesHaveOneTaker, OnlyItemsAndPlayersAreGot, ItemsHaveOneTaker, TakenItemsStayAway};
 ghost use Rattle.plain_server.specs.Kept.{MovesLeaveWhatTheyMade};
 ghost use Rattle.plain_server.specs.Numbers.{NumbersRiseAcrossFrames};
@@ -34,6 +34,12 @@ pub fn ports_stay_apart()
 /// after the moves of a frame, where those that leave are still there.
 pub fn players_keep_room()
     ensures { PlayersKeepRoom }
+{}
+
+/// A frame begins with its tick: its first packet is taken in the world after the tick, and without packets nothing else
+/// happens to the world before the moves.
+pub fn frames_begin_with_their_tick()
+    ensures { FramesBeginWithTheirTick }
 {}
 
 /// Frames are played in turn, numbered from 0: each goes on from the state that those before it leave with their
