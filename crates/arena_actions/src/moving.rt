@@ -22,8 +22,12 @@ use box_trace::WALLS;
 use entity_recs::{Cmd, IDS, Rec};
 use player_move::{Moved, move_player};
 
-/// How many solids are kept at first: as many as a move looks at in all but crowded places.
-pub const FEW_SOLIDS: usize = 64;
+/// How many solids are kept at first: as many as a move looks at in most places. To clear room for more is most of what
+/// it costs to keep none.
+const FEW_SOLIDS: usize = 16;
+
+/// How many solids are kept next: as many as a move or a shot looks at in all but crowded places.
+pub const SOME_SOLIDS: usize = 64;
 
 /// How many solids are kept in a crowded place, before room is made for all that there may be.
 pub const MANY_SOLIDS: usize = 512;
@@ -89,6 +93,9 @@ fn move_among(map: &ArenaMap, index: &SolidIndex, me: &Rec, near: &[Rec], cmd: &
 {
     let place = looked_at(me, cmd.ms);
     if let Some(moved) = move_within::<FEW_SOLIDS>(map, index, me, near, cmd, &place) {
+        return moved;
+    }
+    if let Some(moved) = move_within::<SOME_SOLIDS>(map, index, me, near, cmd, &place) {
         return moved;
     }
     if let Some(moved) = move_within::<MANY_SOLIDS>(map, index, me, near, cmd, &place) {

@@ -8,7 +8,7 @@ ghost use Rattle.arena_outcomes.specs.Outcomes as outcomes;
 
 use crate::arena_action::ArenaAction;
 use crate::boxes::Boxes;
-use crate::moving::{FEW_SOLIDS, MANY_SOLIDS};
+use crate::moving::{MANY_SOLIDS, SOME_SOLIDS};
 use arena_geo::{Aabb, Vec3};
 use arena_map::ArenaMap;
 use entity_recs::{Cmd, Effect, IdList, Rec, Reply, StateList};
@@ -165,7 +165,7 @@ impl ShotAction {
             (walk_of effect.old.me effect.old.states effect.old.reply.got ended) }
         ensures origin { effect.new.reply.origin ≡ effect.old.reply.origin }
     {
-        if self.fire_among_few::<FEW_SOLIDS>(place, effect, near, cmd) {
+        if self.fire_among_few::<SOME_SOLIDS>(place, effect, near, cmd) {
             return;
         }
         if self.fire_among_few::<MANY_SOLIDS>(place, effect, near, cmd) {

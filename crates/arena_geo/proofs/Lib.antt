@@ -7,3 +7,4 @@ pub mod Squares
 pub mod Overlaps
 pub mod Quotients
 pub mod Strips
+pub mod HalfDigits

@@ -14,6 +14,7 @@ use Rattle.arena_map.specs.declared.limits.TheConstants.{MOST_FRAMES}
 use Rattle.demo_lines.specs.declared.line.Line.{Line}
 use Rattle.demo_lines.specs.declared.line.Line.TheVariants.{From}
 use Rattle.demo_lines.specs.declared.line_fault.LineFault.{LineFault}
+use Rattle.demo_lines.specs.declared.rest.TheConstants.{LONGEST_REST}
 use Rattle.demo_lines.specs.declared.stage.Stage.TheVariants.{Ended}
 use Rattle.demo_lines.specs.Known.{Reading, start, without_map, is_map_whole, is_refused, is_over}
 use Rattle.demo_lines.specs.declared.word.Word.{Word}
@@ -28,12 +29,13 @@ use Rattle.demo_lines.specs.InTurn.{IsBuilt, map_in_turn, text_in_turn}
 use Rattle.edge_io.specs.WholeLines.{is_line_feed, whole_lines}
 use Rattle.demo_lines.specs.Bytes.{LineRefusal, refusal, events_within, fault_within, map_within, events, fault, map_of}
 
--- the most frames of a recording, packets of a frame, bytes of a packet, and lines of a recording
+-- the most frames of a recording, packets of a frame, bytes of a packet, lines of a recording, and bytes of a line after it
 pub record LimitsAreKnown : Type 0 where
   pub frames : MOST_FRAMES ≡ 100000
   pub arrivals : MOST_ARRIVALS ≡ 512
   pub bytes : MOST_BYTES ≡ 252
   pub lines : most_lines ≡ 51304613
+  pub rest : LONGEST_REST ≡ 16500
 
 -- a packet is read back from its bytes as two hexadecimal digits each, in either case, and an empty one from a dash
 pub record PacketReadsBack : Type 0 where

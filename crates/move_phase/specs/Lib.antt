@@ -8,3 +8,4 @@ pub mod Running
 pub mod Sharing
 pub mod Starting
 pub mod Turns
+pub mod Laws

@@ -53,6 +53,9 @@ impl<'a, G: Gate> Runners<'a, G> {
         gate: &'a G,
         helpers: usize,
     ) -> (Runners<'a, G>, Helpers<Turn<'a, G>>) {
+        if helpers == 0 {
+            return (Runners::alone(gate), Helpers::none(alloc));
+        }
         match Team::new(alloc, gate, helpers) {
             Ok((team, helpers)) => {
                 let team = Some(team);

@@ -316,10 +316,34 @@ looks-are w abs region one leaves nodes count before after leaves_is nodes_is co
     ∙ ap (λ all. before + looks_at all w.lists (filter (has_bit nodes) (range_with_len 0 all))) count_is
     ∙ ap (λ n. before + looks_at (nodes_in w.tree.depth) w.lists (filter (has_bit n) (range_with_len 0 (nodes_in w.tree.depth)))) visited
 
--- what the steps of `free` come to, where no fixed box is in the way
-pub free-is : (records walked : List (Option Rec)) (body : Bounds) (fixed : List Bounds) (except : ℕ) (by_fixed by_solids : Bool)
-    → by_fixed ≡ is_blocked body fixed → by_fixed ≡ false → by_solids ≡ list_any (is_in_the_way body except) walked → walked ≡ records
+-- a place is free where neither the fixed boxes nor the solids that were walked over are in the way
+free-is : (records walked : List (Option Rec)) (body : Bounds) (fixed : List Bounds) (except : ℕ) (by_fixed by_solids : Bool)
+    → by_fixed ≡ is_blocked body fixed → by_solids ≡ list_any (is_in_the_way body except) walked → walked ≡ records
+    → not by_fixed && not by_solids ≡ is_free records body fixed except
+free-is records walked body fixed except by_fixed by_solids fixed_is solids_is walked_is =
+    ap (λ (b : Bool). not b && not by_solids) fixed_is
+    ∙ ap (λ (b : Bool). not (is_blocked body fixed) && not b)
+    (solids_is ∙ ap (list_any (is_in_the_way body except)) walked_is ∙ in_the_way-is body except records)
+
+neither_is : (a b : Bool) → b ≡ false → not a ≡ not a && not b
+neither_is true b e = refl
+neither_is false b e = sym (ap not e)
+
+second_is : (a b : Bool) → b ≡ true → not b ≡ not a && not b
+second_is true b e = ap not e
+second_is false b e = refl
+
+-- what the steps of `free` come to, where no solid is in the way
+pub free_of_solids : (records walked : List (Option Rec)) (body : Bounds) (fixed : List Bounds) (except : ℕ) (by_fixed by_solids : Bool)
+    → by_fixed ≡ is_blocked body fixed → by_solids ≡ false → by_solids ≡ list_any (is_in_the_way body except) walked → walked ≡ records
+    → not by_fixed ≡ is_free records body fixed except
+free_of_solids records walked body fixed except by_fixed by_solids fixed_is none solids_is walked_is =
+    neither_is by_fixed by_solids none ∙ free-is records walked body fixed except by_fixed by_solids fixed_is solids_is walked_is
+
+-- and where one is
+pub blocked_by_one : (records walked : List (Option Rec)) (body : Bounds) (fixed : List Bounds) (except : ℕ) (by_solids : Bool)
+    → by_solids ≡ true → by_solids ≡ list_any (is_in_the_way body except) walked → walked ≡ records
     → not by_solids ≡ is_free records body fixed except
-free-is records walked body fixed except by_fixed by_solids fixed_is none solids_is walked_is =
-    ap not (solids_is ∙ ap (list_any (is_in_the_way body except)) walked_is ∙ in_the_way-is body except records)
-    ∙ ap (λ (b : Bool). not b && not (is_blocked body (map body_of (solids_in records except)))) (sym none ∙ fixed_is)
+blocked_by_one records walked body fixed except by_solids one solids_is walked_is =
+    second_is (is_blocked body fixed) by_solids one
+    ∙ free-is records walked body fixed except (is_blocked body fixed) by_solids refl solids_is walked_is

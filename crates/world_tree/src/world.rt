@@ -255,6 +255,7 @@ impl World {
         ensures free { result ≡ is_free self.now.records body.now fixed.now except }
         ensures linked { IsLinked self.now }
     {
-        !body.is_blocked(fixed) && !is_blocked_by_solids(&self.records, body, except)
+        // The players first: they are few, and stand where others want to join.
+        !is_blocked_by_solids(&self.records, body, except) && !body.is_blocked(fixed)
     }
 }

@@ -13,7 +13,7 @@ use std::thread::{Threads, yield_now};
 const FAR_SPAWNS: &str =
     "arena -131072 -131072 0 131072 131072 65536\nspawn 98304 98304 6144\nspawn -98304 -98304 6144\nspawn 98304 -98304 6144\nspawn -98304 98304 6144\nspawn 32768 98304 6144\nspawn -32768 -98304 6144\nspawn 32768 -98304 6144\nspawn -32768 98304 6144\nspawn 98304 32768 6144\nspawn -98304 -32768 6144\nspawn 98304 -32768 6144\nspawn -98304 32768 6144\nspawn 32768 32768 6144\nspawn -32768 -32768 6144\nspawn 32768 -32768 6144\nspawn -32768 32768 6144\nframe\n";
 
-/// How often a worker looks whether the one that isn't held has committed its move, before it gives up.
+/// How often a worker looks for what it waits for, before it gives up.
 const MOST_LOOKS: u32 = 10_000_000;
 
 /// What a gate has seen of one worker: at which points it was called with the worker's slot and the number 1, and where
@@ -49,24 +49,24 @@ impl Seen {
         self.z.store(origin.z, Ordering::SeqCst);
         self.committed.store(true, Ordering::SeqCst);
     }
-
-    /// Waits until the worker has committed, or a worker has failed. The answer is whether it has before the last look.
-    fn has_committed(&self, has_failed: &AtomicBool) -> bool {
-        for _ in 0..MOST_LOOKS {
-            if self.committed.load(Ordering::SeqCst) {
-                return true;
-            }
-            if has_failed.load(Ordering::SeqCst) {
-                return false;
-            }
-            yield_now();
-        }
-        false
-    }
 }
 
-/// A gate that holds all workers but one where they have their leaves, until that one has committed. Each worker that is
-/// held keeps its thread, so that one gets there only if each has a thread of its own.
+/// Waits until this was seen, or a worker has failed. The answer is whether it was seen before the last look.
+fn is_seen_soon(seen: &AtomicBool, has_failed: &AtomicBool) -> bool {
+    for _ in 0..MOST_LOOKS {
+        if seen.load(Ordering::SeqCst) {
+            return true;
+        }
+        if has_failed.load(Ordering::SeqCst) {
+            return false;
+        }
+        yield_now();
+    }
+    false
+}
+
+/// A gate that holds all workers but one where they have their leaves, until that one has committed, and that one until
+/// all have their leaves. Who is held keeps its thread, so all get there only if each has a thread of its own.
 #[derive(Drop)]
 struct HoldingGate {
     free: u8,
@@ -103,8 +103,17 @@ impl HoldingGate {
         let Some(free) = self.seen_of(self.free) else {
             return self.fail();
         };
-        if !free.has_committed(&self.has_failed) {
+        if !is_seen_soon(&free.committed, &self.has_failed) {
             self.fail();
+        }
+    }
+
+    /// Holds the worker that commits first until all have their leaves.
+    fn hold_free(&self) {
+        for seen in &self.seen {
+            if !is_seen_soon(&seen.leaves, &self.has_failed) {
+                return self.fail();
+            }
         }
     }
 }
@@ -121,7 +130,9 @@ impl Gate for HoldingGate {
         match (moment.point(), moment.entry()) {
             (GatePoint::Leaves, _) => {
                 seen.leaves.store(true, Ordering::SeqCst);
-                if worker != self.free {
+                if worker == self.free {
+                    self.hold_free();
+                } else {
                     self.hold();
                 }
             }
