@@ -46,7 +46,7 @@ Read on in README.md; docs/FORMATS.md has the formats and the faults.
 ";
 
 /// What `version` writes: the program's version, and the kit that it was proved with.
-pub const VERSION: &[u8] = b"arena_cli 1.0.0, proved with rattle-kit-13f logic dac8208d650f15bf\n";
+pub const VERSION: &[u8] = b"arena_cli 1.0.0, proved with a rattle-kit of logic dac8208d650f15bf\n";
 
 /// Writes a text that explains the program. It takes no memory.
 pub fn explain<K: Sink>(alloc: Global, text: &[u8], sink: &mut K) -> Report

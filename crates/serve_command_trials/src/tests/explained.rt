@@ -7,7 +7,7 @@ use std::test::Fail;
 use std::thread::Threads;
 
 /// What `version` writes.
-const VERSION: &[u8] = b"arena_cli 1.0.0, proved with rattle-kit-13f logic dac8208d650f15bf\n";
+const VERSION: &[u8] = b"arena_cli 1.0.0, proved with a rattle-kit of logic dac8208d650f15bf\n";
 
 /// Serves one word, into a sink with so much room, over a source whose first read would fail.
 fn serve_word(
