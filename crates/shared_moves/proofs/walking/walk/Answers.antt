@@ -1,38 +1,58 @@
-use Rattle.std.proofs.Common.{sym, ap, ◌∙◌}
+use Rattle.std.proofs.Common.{sym, ap, ◌∙◌, subst}
 use Rattle.entity_recs.specs.Commands.{command_of}
 use Rattle.ruled_words.specs.Passes.{PassView, fixed_in}
-use Rattle.ruled_words.proofs.GivingUp.{on_err}
+use Rattle.core_steps.specs.Reads.{region_in}
+use Rattle.ruled_words.specs.Straight.{AreHeldFor}
+use Rattle.ruled_words.proofs.GivingUp.{none_refused_yet, on_err}
 use Rattle.shared_moves.specs.Points.{MomentView}
-use Rattle.shared_moves.proofs.Runs.{some_entry, first_visit, held_still, has_read, none_while_read, read_refusals, known_point, cmd_again, in_hand_known, again_still, committed_point, refusals_again, refusals_end, in_hand_again, in_hand_read, has_left, none_end, has_moved}
+use Rattle.shared_moves.proofs.Runs.{some_entry, held_point, holds_leaves, begun_in_hand, none_begun, refusals_begun, first_visit, held_read, has_read, none_while_read, read_refusals, known_point, cmd_again, in_hand_known, again_still, committed_point, refusals_again, refusals_end, in_hand_again, in_hand_read, has_left, none_end, has_moved}
 use Rattle.shared_moves.proofs.walking.walk.Goals as goal
+
+pub held_for-held-requires-clause-region_is : goal.held_for-held-requires-clause-region_is
+held_for-held-requires-clause-region_is g c κs within =
+    c.region_of-region.ensures ∙ ap (λ (p : PassView). region_in (fixed_in g.A.Action.meaning c.args.words.now) p.view.cmd p.view.own) c.own_words-own.ensures.view
+
+pub take_leaves-requires-clause-held : goal.take_leaves-requires-clause-held
+take_leaves-requires-clause-held g c κs within =
+    subst (λ (p : PassView). AreHeldFor (fixed_in g.A.Action.meaning c.args.words.now) c.held_for-held.result p.view) (sym c.own_words-own.ensures.view) c.held_for-held.ensures
+
+pub at_leaves-requires-clause-at : goal.at_leaves-requires-clause-at
+at_leaves-requires-clause-at g c =
+    held_point (fixed_in g.A.Action.meaning c.args.words.now) (command_of c.args.cmd.now) c.own_words-own.result c.args.hand.now c.own_words-own.new.hand c.take_leaves.new.hand c.own_words-own.ensures.view c.in_ok-take_leaves.ensures.view
+
+pub returns-in_err-take_leaves-clause-left : goal.returns-in_err-take_leaves-clause-left
+returns-in_err-take_leaves-clause-left g c =
+    on_err _ (has_left (fixed_in g.A.Action.meaning c.args.words.now) _ (command_of c.args.cmd.now) c.args.hand.now c.own_words-own.new.hand c.take_leaves.new.hand
+    (begun_in_hand (fixed_in g.A.Action.meaning c.args.words.now) (command_of c.args.cmd.now) c.own_words-own.result c.args.hand.now c.own_words-own.new.hand c.take_leaves.new.hand c.own_words-own.ensures.view)
+    c.in_err-take_leaves.ensures.given_up)
 
 pub read_nodes-requires-clause-at : goal.read_nodes-requires-clause-at
 read_nodes-requires-clause-at g c κs within =
-    first_visit (fixed_in g.A.Action.meaning c.args.words.now) c.own_again-again.result c.hold_leaves.new.hand c.own_again-again.new.hand c.own_again-again.ensures.view
+    first_visit (fixed_in g.A.Action.meaning c.args.words.now) c.own_again-again.result c.take_leaves.new.hand c.own_again-again.new.hand c.own_again-again.ensures.view
 
 pub returns-in_err-seen-clause-left : goal.returns-in_err-seen-clause-left
 returns-in_err-seen-clause-left g c =
     on_err _ (has_left (fixed_in g.A.Action.meaning c.args.words.now) _ (command_of c.args.cmd.now) c.args.hand.now c.own_again-again.new.hand c.read_nodes.new.hand
-    (in_hand_again (fixed_in g.A.Action.meaning c.args.words.now) (command_of c.args.cmd.now) c.in_ok-held.held c.own_again-again.result _ c.args.hand.now c.hold_leaves.new.hand c.own_again-again.new.hand c.in_ok-held.ensures.holds c.own_again-again.ensures.view
-    (c.in_ok-held.ensures.served c.in_err-seen.ensures.at_once))
+    (in_hand_again (fixed_in g.A.Action.meaning c.args.words.now) (command_of c.args.cmd.now) c.own_words-own.result c.own_again-again.result _ c.args.hand.now c.take_leaves.new.hand c.own_again-again.new.hand (holds_leaves (fixed_in g.A.Action.meaning c.args.words.now) (command_of c.args.cmd.now) c.own_words-own.result c.args.hand.now c.own_words-own.new.hand c.take_leaves.new.hand c.own_words-own.ensures.view c.in_ok-take_leaves.ensures.view c.in_ok-take_leaves.ensures.tried) c.own_again-again.ensures.view
+    (none_refused_yet c.args.hand.now c.own_words-own.new.hand c.take_leaves.new.hand (none_begun (fixed_in g.A.Action.meaning c.args.words.now) (command_of c.args.cmd.now) c.own_words-own.result c.args.hand.now c.own_words-own.new.hand c.take_leaves.new.hand c.own_words-own.ensures.view) (c.in_ok-take_leaves.ensures.served c.in_err-seen.ensures.at_once)))
     c.in_err-seen.ensures.given_up)
 
 pub returns-in_err-seen-clause-refusals : goal.returns-in_err-seen-clause-refusals
 returns-in_err-seen-clause-refusals g c are =
     c.read_nodes.ensures.refusals
-    (refusals_again (fixed_in g.A.Action.meaning c.args.words.now) (command_of c.args.cmd.now) c.in_ok-held.held c.own_again-again.result _ c.args.hand.now c.hold_leaves.new.hand c.own_again-again.new.hand c.in_ok-held.ensures.holds c.own_again-again.ensures.view _
-    (c.hold_leaves.ensures.refusals are))
+    (refusals_again (fixed_in g.A.Action.meaning c.args.words.now) (command_of c.args.cmd.now) c.own_words-own.result c.own_again-again.result _ c.args.hand.now c.take_leaves.new.hand c.own_again-again.new.hand (holds_leaves (fixed_in g.A.Action.meaning c.args.words.now) (command_of c.args.cmd.now) c.own_words-own.result c.args.hand.now c.own_words-own.new.hand c.take_leaves.new.hand c.own_words-own.ensures.view c.in_ok-take_leaves.ensures.view c.in_ok-take_leaves.ensures.tried) c.own_again-again.ensures.view _
+    (c.take_leaves.ensures.refusals (refusals_begun (fixed_in g.A.Action.meaning c.args.words.now) (command_of c.args.cmd.now) c.own_words-own.result c.args.hand.now c.own_words-own.new.hand c.take_leaves.new.hand c.own_words-own.ensures.view _ are)))
 
 pub read_effect-effect-requires-clause-region_is : goal.read_effect-effect-requires-clause-region_is
 read_effect-effect-requires-clause-region_is g c κs within =
-    (held_still (fixed_in g.A.Action.meaning c.args.words.now) c.in_ok-held.held c.hold_leaves.new.hand.view c.read_nodes.new.hand.view
-    (ap (λ (p : PassView). p.view.cmd) c.in_ok-seen.ensures.view ∙ ap (λ (p : PassView). p.view.cmd) c.own_again-again.ensures.view)
-    (ap (λ (p : PassView). p.view.own) c.in_ok-seen.ensures.view ∙ ap (λ (p : PassView). p.view.own) c.own_again-again.ensures.view)
-    (ap (λ (p : PassView). p.view.wanted) c.in_ok-seen.ensures.view ∙ ap (λ (p : PassView). p.view.wanted) c.own_again-again.ensures.view) c.in_ok-held.ensures.held).region_is
+    c.region_of-region.ensures
+    ∙ sym (ap (λ (p : PassView). region_in (fixed_in g.A.Action.meaning c.args.words.now) p.view.cmd p.view.own) c.in_ok-seen.ensures.view
+    ∙ ap (λ (p : PassView). region_in (fixed_in g.A.Action.meaning c.args.words.now) p.view.cmd p.view.own) c.own_again-again.ensures.view
+    ∙ ap (λ (p : PassView). region_in (fixed_in g.A.Action.meaning c.args.words.now) p.view.cmd p.view.own) c.in_ok-take_leaves.ensures.view)
 
 pub read_effect-effect-requires-clause-cmd_is : goal.read_effect-effect-requires-clause-cmd_is
 read_effect-effect-requires-clause-cmd_is g c κs within =
-    sym (ap (λ (p : PassView). p.view.cmd) c.in_ok-seen.ensures.view ∙ cmd_again (fixed_in g.A.Action.meaning c.args.words.now) (command_of c.args.cmd.now) c.in_ok-held.held c.own_again-again.result _ c.args.hand.now c.hold_leaves.new.hand c.own_again-again.new.hand c.in_ok-held.ensures.holds c.own_again-again.ensures.view)
+    sym (ap (λ (p : PassView). p.view.cmd) c.in_ok-seen.ensures.view ∙ cmd_again (fixed_in g.A.Action.meaning c.args.words.now) (command_of c.args.cmd.now) c.own_words-own.result c.own_again-again.result _ c.args.hand.now c.take_leaves.new.hand c.own_again-again.new.hand (holds_leaves (fixed_in g.A.Action.meaning c.args.words.now) (command_of c.args.cmd.now) c.own_words-own.result c.args.hand.now c.own_words-own.new.hand c.take_leaves.new.hand c.own_words-own.ensures.view c.in_ok-take_leaves.ensures.view c.in_ok-take_leaves.ensures.tried) c.own_again-again.ensures.view)
 
 pub read_effect-effect-requires-clause-again_is : goal.read_effect-effect-requires-clause-again_is
 read_effect-effect-requires-clause-again_is g c κs within =
@@ -44,48 +64,45 @@ at_effect-requires-clause-at g c κs within =
 
 pub at_effect-requires-clause-in_hand : goal.at_effect-requires-clause-in_hand
 at_effect-requires-clause-in_hand g c κs within =
-    in_hand_known (fixed_in g.A.Action.meaning c.args.words.now) (command_of c.args.cmd.now) c.in_ok-held.held c.own_again-again.result _ c.args.hand.now c.hold_leaves.new.hand c.own_again-again.new.hand c.in_ok-held.ensures.holds c.own_again-again.ensures.view c.read_effect-effect.result c.read_effect-effect.new.hand (has_read (fixed_in g.A.Action.meaning c.args.words.now) c.own_again-again.new.hand c.read_nodes.new.hand c.read_effect-effect.new.hand c.in_ok-seen.ensures.view c.read_effect-effect.ensures.view c.read_effect-effect.result c.in_ok-seen.ensures.tried c.read_effect-effect.ensures.effect)
+    in_hand_known (fixed_in g.A.Action.meaning c.args.words.now) (command_of c.args.cmd.now) c.own_words-own.result c.own_again-again.result _ c.args.hand.now c.take_leaves.new.hand c.own_again-again.new.hand (holds_leaves (fixed_in g.A.Action.meaning c.args.words.now) (command_of c.args.cmd.now) c.own_words-own.result c.args.hand.now c.own_words-own.new.hand c.take_leaves.new.hand c.own_words-own.ensures.view c.in_ok-take_leaves.ensures.view c.in_ok-take_leaves.ensures.tried) c.own_again-again.ensures.view c.read_effect-effect.result c.read_effect-effect.new.hand (has_read (fixed_in g.A.Action.meaning c.args.words.now) c.own_again-again.new.hand c.read_nodes.new.hand c.read_effect-effect.new.hand c.in_ok-seen.ensures.view c.read_effect-effect.ensures.view c.read_effect-effect.result c.in_ok-seen.ensures.tried c.read_effect-effect.ensures.effect)
 
 pub write_effect-requires-clause-held : goal.write_effect-requires-clause-held
 write_effect-requires-clause-held g c κs within =
-    held_still (fixed_in g.A.Action.meaning c.args.words.now) c.in_ok-held.held c.hold_leaves.new.hand.view c.read_effect-effect.new.hand.view
-    (ap (λ (p : PassView). p.view.cmd) c.read_effect-effect.ensures.view ∙ ap (λ (p : PassView). p.view.cmd) c.in_ok-seen.ensures.view ∙ ap (λ (p : PassView). p.view.cmd) c.own_again-again.ensures.view)
-    (ap (λ (p : PassView). p.view.own) c.read_effect-effect.ensures.view ∙ ap (λ (p : PassView). p.view.own) c.in_ok-seen.ensures.view ∙ ap (λ (p : PassView). p.view.own) c.own_again-again.ensures.view)
-    (ap (λ (p : PassView). p.view.wanted) c.read_effect-effect.ensures.view ∙ ap (λ (p : PassView). p.view.wanted) c.in_ok-seen.ensures.view ∙ ap (λ (p : PassView). p.view.wanted) c.own_again-again.ensures.view) c.in_ok-held.ensures.held
+    held_read (fixed_in g.A.Action.meaning c.args.words.now) (command_of c.args.cmd.now) c.own_words-own.result c.own_again-again.result _ c.args.hand.now c.take_leaves.new.hand c.own_again-again.new.hand (holds_leaves (fixed_in g.A.Action.meaning c.args.words.now) (command_of c.args.cmd.now) c.own_words-own.result c.args.hand.now c.own_words-own.new.hand c.take_leaves.new.hand c.own_words-own.ensures.view c.in_ok-take_leaves.ensures.view c.in_ok-take_leaves.ensures.tried) c.own_again-again.ensures.view c.read_effect-effect.result c.read_effect-effect.new.hand (has_read (fixed_in g.A.Action.meaning c.args.words.now) c.own_again-again.new.hand c.read_nodes.new.hand c.read_effect-effect.new.hand c.in_ok-seen.ensures.view c.read_effect-effect.ensures.view c.read_effect-effect.result c.in_ok-seen.ensures.tried c.read_effect-effect.ensures.effect) c.held_for-held.result c.held_for-held.ensures
 
 pub write_effect-requires-clause-again_is : goal.write_effect-requires-clause-again_is
 write_effect-requires-clause-again_is g c κs within =
-    again_still (fixed_in g.A.Action.meaning c.args.words.now) (command_of c.args.cmd.now) c.in_ok-held.held c.own_again-again.result _ c.args.hand.now c.hold_leaves.new.hand c.own_again-again.new.hand c.in_ok-held.ensures.holds c.own_again-again.ensures.view c.read_effect-effect.result c.read_effect-effect.new.hand (has_read (fixed_in g.A.Action.meaning c.args.words.now) c.own_again-again.new.hand c.read_nodes.new.hand c.read_effect-effect.new.hand c.in_ok-seen.ensures.view c.read_effect-effect.ensures.view c.read_effect-effect.result c.in_ok-seen.ensures.tried c.read_effect-effect.ensures.effect)
+    again_still (fixed_in g.A.Action.meaning c.args.words.now) (command_of c.args.cmd.now) c.own_words-own.result c.own_again-again.result _ c.args.hand.now c.take_leaves.new.hand c.own_again-again.new.hand (holds_leaves (fixed_in g.A.Action.meaning c.args.words.now) (command_of c.args.cmd.now) c.own_words-own.result c.args.hand.now c.own_words-own.new.hand c.take_leaves.new.hand c.own_words-own.ensures.view c.in_ok-take_leaves.ensures.view c.in_ok-take_leaves.ensures.tried) c.own_again-again.ensures.view c.read_effect-effect.result c.read_effect-effect.new.hand (has_read (fixed_in g.A.Action.meaning c.args.words.now) c.own_again-again.new.hand c.read_nodes.new.hand c.read_effect-effect.new.hand c.in_ok-seen.ensures.view c.read_effect-effect.ensures.view c.read_effect-effect.result c.in_ok-seen.ensures.tried c.read_effect-effect.ensures.effect)
 
 pub returns-in_err-place-clause-left : goal.returns-in_err-place-clause-left
 returns-in_err-place-clause-left g c =
     let at_once = c.in_err-place.ensures.at_once in
     on_err _ (has_left (fixed_in g.A.Action.meaning c.args.words.now) _ (command_of c.args.cmd.now) c.args.hand.now c.read_effect-effect.new.hand c.write_effect.new.hand
-    (in_hand_read (fixed_in g.A.Action.meaning c.args.words.now) (command_of c.args.cmd.now) c.in_ok-held.held c.own_again-again.result _ c.args.hand.now c.hold_leaves.new.hand c.own_again-again.new.hand c.in_ok-held.ensures.holds c.own_again-again.ensures.view c.read_effect-effect.result c.read_effect-effect.new.hand (has_read (fixed_in g.A.Action.meaning c.args.words.now) c.own_again-again.new.hand c.read_nodes.new.hand c.read_effect-effect.new.hand c.in_ok-seen.ensures.view c.read_effect-effect.ensures.view c.read_effect-effect.result c.in_ok-seen.ensures.tried c.read_effect-effect.ensures.effect)
-    (c.in_ok-held.ensures.served at_once) (none_while_read (fixed_in g.A.Action.meaning c.args.words.now) c.own_again-again.new.hand c.read_nodes.new.hand c.read_effect-effect.new.hand c.in_ok-seen.ensures.view c.read_effect-effect.ensures.view (c.in_ok-seen.ensures.served at_once)))
+    (in_hand_read (fixed_in g.A.Action.meaning c.args.words.now) (command_of c.args.cmd.now) c.own_words-own.result c.own_again-again.result _ c.args.hand.now c.take_leaves.new.hand c.own_again-again.new.hand (holds_leaves (fixed_in g.A.Action.meaning c.args.words.now) (command_of c.args.cmd.now) c.own_words-own.result c.args.hand.now c.own_words-own.new.hand c.take_leaves.new.hand c.own_words-own.ensures.view c.in_ok-take_leaves.ensures.view c.in_ok-take_leaves.ensures.tried) c.own_again-again.ensures.view c.read_effect-effect.result c.read_effect-effect.new.hand (has_read (fixed_in g.A.Action.meaning c.args.words.now) c.own_again-again.new.hand c.read_nodes.new.hand c.read_effect-effect.new.hand c.in_ok-seen.ensures.view c.read_effect-effect.ensures.view c.read_effect-effect.result c.in_ok-seen.ensures.tried c.read_effect-effect.ensures.effect)
+    (none_refused_yet c.args.hand.now c.own_words-own.new.hand c.take_leaves.new.hand (none_begun (fixed_in g.A.Action.meaning c.args.words.now) (command_of c.args.cmd.now) c.own_words-own.result c.args.hand.now c.own_words-own.new.hand c.take_leaves.new.hand c.own_words-own.ensures.view) (c.in_ok-take_leaves.ensures.served at_once)) (none_while_read (fixed_in g.A.Action.meaning c.args.words.now) c.own_again-again.new.hand c.read_nodes.new.hand c.read_effect-effect.new.hand c.in_ok-seen.ensures.view c.read_effect-effect.ensures.view (c.in_ok-seen.ensures.served at_once)))
     c.in_err-place.ensures.given_up)
 
 pub returns-in_err-place-clause-refusals : goal.returns-in_err-place-clause-refusals
 returns-in_err-place-clause-refusals g c are =
     c.write_effect.ensures.refusals (read_refusals (fixed_in g.A.Action.meaning c.args.words.now) c.own_again-again.new.hand c.read_nodes.new.hand c.read_effect-effect.new.hand c.in_ok-seen.ensures.view c.read_effect-effect.ensures.view _ (c.in_ok-seen.ensures.refusals
-    (refusals_again (fixed_in g.A.Action.meaning c.args.words.now) (command_of c.args.cmd.now) c.in_ok-held.held c.own_again-again.result _ c.args.hand.now c.hold_leaves.new.hand c.own_again-again.new.hand c.in_ok-held.ensures.holds c.own_again-again.ensures.view _
-    (c.hold_leaves.ensures.refusals are))))
+    (refusals_again (fixed_in g.A.Action.meaning c.args.words.now) (command_of c.args.cmd.now) c.own_words-own.result c.own_again-again.result _ c.args.hand.now c.take_leaves.new.hand c.own_again-again.new.hand (holds_leaves (fixed_in g.A.Action.meaning c.args.words.now) (command_of c.args.cmd.now) c.own_words-own.result c.args.hand.now c.own_words-own.new.hand c.take_leaves.new.hand c.own_words-own.ensures.view c.in_ok-take_leaves.ensures.view c.in_ok-take_leaves.ensures.tried) c.own_again-again.ensures.view _
+    (c.take_leaves.ensures.refusals (refusals_begun (fixed_in g.A.Action.meaning c.args.words.now) (command_of c.args.cmd.now) c.own_words-own.result c.args.hand.now c.own_words-own.new.hand c.take_leaves.new.hand c.own_words-own.ensures.view _ are)))))
 
 pub at_commit-committed-requires-clause-at : goal.at_commit-committed-requires-clause-at
 at_commit-committed-requires-clause-at g c =
-    committed_point (fixed_in g.A.Action.meaning c.args.words.now) (command_of c.args.cmd.now) c.in_ok-held.held c.own_again-again.result _ c.args.hand.now c.hold_leaves.new.hand c.own_again-again.new.hand c.in_ok-held.ensures.holds c.own_again-again.ensures.view c.read_effect-effect.result c.read_effect-effect.new.hand (has_read (fixed_in g.A.Action.meaning c.args.words.now) c.own_again-again.new.hand c.read_nodes.new.hand c.read_effect-effect.new.hand c.in_ok-seen.ensures.view c.read_effect-effect.ensures.view c.read_effect-effect.result c.in_ok-seen.ensures.tried c.read_effect-effect.ensures.effect) c.in_ok-place.place c.write_effect.new.hand c.in_ok-place.ensures.written
+    committed_point (fixed_in g.A.Action.meaning c.args.words.now) (command_of c.args.cmd.now) c.own_words-own.result c.own_again-again.result _ c.args.hand.now c.take_leaves.new.hand c.own_again-again.new.hand (holds_leaves (fixed_in g.A.Action.meaning c.args.words.now) (command_of c.args.cmd.now) c.own_words-own.result c.args.hand.now c.own_words-own.new.hand c.take_leaves.new.hand c.own_words-own.ensures.view c.in_ok-take_leaves.ensures.view c.in_ok-take_leaves.ensures.tried) c.own_again-again.ensures.view c.read_effect-effect.result c.read_effect-effect.new.hand (has_read (fixed_in g.A.Action.meaning c.args.words.now) c.own_again-again.new.hand c.read_nodes.new.hand c.read_effect-effect.new.hand c.in_ok-seen.ensures.view c.read_effect-effect.ensures.view c.read_effect-effect.result c.in_ok-seen.ensures.tried c.read_effect-effect.ensures.effect) c.in_ok-place.place c.write_effect.new.hand c.in_ok-place.ensures.written
 
 pub returns-clause-moved : goal.returns-clause-moved
 returns-clause-moved g c =
-    has_moved (fixed_in g.A.Action.meaning c.args.words.now) (command_of c.args.cmd.now) c.in_ok-held.held c.own_again-again.result _ c.args.hand.now c.hold_leaves.new.hand c.own_again-again.new.hand c.in_ok-held.ensures.holds c.own_again-again.ensures.view c.read_effect-effect.result c.read_effect-effect.new.hand (has_read (fixed_in g.A.Action.meaning c.args.words.now) c.own_again-again.new.hand c.read_nodes.new.hand c.read_effect-effect.new.hand c.in_ok-seen.ensures.view c.read_effect-effect.ensures.view c.read_effect-effect.result c.in_ok-seen.ensures.tried c.read_effect-effect.ensures.effect) c.in_ok-place.place c.write_effect.new.hand c.in_ok-place.ensures.written c.return_leaves.new.hand c.return_leaves.ensures.view c.unwrap-entry.result (some_entry _ _ (sym c.unwrap-entry.ensures ∙ c.show_moment.ensures ∙ ap (λ (m : MomentView). m.entry) c.at_commit-committed.ensures) ∙ c.entry_of.ensures)
+    has_moved (fixed_in g.A.Action.meaning c.args.words.now) (command_of c.args.cmd.now) c.own_words-own.result c.own_again-again.result _ c.args.hand.now c.take_leaves.new.hand c.own_again-again.new.hand (holds_leaves (fixed_in g.A.Action.meaning c.args.words.now) (command_of c.args.cmd.now) c.own_words-own.result c.args.hand.now c.own_words-own.new.hand c.take_leaves.new.hand c.own_words-own.ensures.view c.in_ok-take_leaves.ensures.view c.in_ok-take_leaves.ensures.tried) c.own_again-again.ensures.view c.read_effect-effect.result c.read_effect-effect.new.hand (has_read (fixed_in g.A.Action.meaning c.args.words.now) c.own_again-again.new.hand c.read_nodes.new.hand c.read_effect-effect.new.hand c.in_ok-seen.ensures.view c.read_effect-effect.ensures.view c.read_effect-effect.result c.in_ok-seen.ensures.tried c.read_effect-effect.ensures.effect) c.in_ok-place.place c.write_effect.new.hand c.in_ok-place.ensures.written c.return_leaves.new.hand c.return_leaves.ensures.view c.unwrap-entry.result (some_entry _ _ (sym c.unwrap-entry.ensures ∙ c.show_moment.ensures ∙ ap (λ (m : MomentView). m.entry) c.at_commit-committed.ensures) ∙ c.entry_of.ensures)
 
 pub returns-clause-served : goal.returns-clause-served
 returns-clause-served g c at_once =
-    none_end (fixed_in g.A.Action.meaning c.args.words.now) (command_of c.args.cmd.now) c.in_ok-held.held c.own_again-again.result _ c.args.hand.now c.hold_leaves.new.hand c.own_again-again.new.hand c.in_ok-held.ensures.holds c.own_again-again.ensures.view c.read_effect-effect.result c.read_effect-effect.new.hand (has_read (fixed_in g.A.Action.meaning c.args.words.now) c.own_again-again.new.hand c.read_nodes.new.hand c.read_effect-effect.new.hand c.in_ok-seen.ensures.view c.read_effect-effect.ensures.view c.read_effect-effect.result c.in_ok-seen.ensures.tried c.read_effect-effect.ensures.effect) c.in_ok-place.place c.write_effect.new.hand c.in_ok-place.ensures.written c.return_leaves.new.hand c.return_leaves.ensures.view
-    (c.in_ok-held.ensures.served at_once) (none_while_read (fixed_in g.A.Action.meaning c.args.words.now) c.own_again-again.new.hand c.read_nodes.new.hand c.read_effect-effect.new.hand c.in_ok-seen.ensures.view c.read_effect-effect.ensures.view (c.in_ok-seen.ensures.served at_once)) (c.in_ok-place.ensures.served at_once)
+    none_end (fixed_in g.A.Action.meaning c.args.words.now) (command_of c.args.cmd.now) c.own_words-own.result c.own_again-again.result _ c.args.hand.now c.take_leaves.new.hand c.own_again-again.new.hand (holds_leaves (fixed_in g.A.Action.meaning c.args.words.now) (command_of c.args.cmd.now) c.own_words-own.result c.args.hand.now c.own_words-own.new.hand c.take_leaves.new.hand c.own_words-own.ensures.view c.in_ok-take_leaves.ensures.view c.in_ok-take_leaves.ensures.tried) c.own_again-again.ensures.view c.read_effect-effect.result c.read_effect-effect.new.hand (has_read (fixed_in g.A.Action.meaning c.args.words.now) c.own_again-again.new.hand c.read_nodes.new.hand c.read_effect-effect.new.hand c.in_ok-seen.ensures.view c.read_effect-effect.ensures.view c.read_effect-effect.result c.in_ok-seen.ensures.tried c.read_effect-effect.ensures.effect) c.in_ok-place.place c.write_effect.new.hand c.in_ok-place.ensures.written c.return_leaves.new.hand c.return_leaves.ensures.view
+    (none_refused_yet c.args.hand.now c.own_words-own.new.hand c.take_leaves.new.hand (none_begun (fixed_in g.A.Action.meaning c.args.words.now) (command_of c.args.cmd.now) c.own_words-own.result c.args.hand.now c.own_words-own.new.hand c.take_leaves.new.hand c.own_words-own.ensures.view) (c.in_ok-take_leaves.ensures.served at_once)) (none_while_read (fixed_in g.A.Action.meaning c.args.words.now) c.own_again-again.new.hand c.read_nodes.new.hand c.read_effect-effect.new.hand c.in_ok-seen.ensures.view c.read_effect-effect.ensures.view (c.in_ok-seen.ensures.served at_once)) (c.in_ok-place.ensures.served at_once)
 
 pub returns-clause-refusals : goal.returns-clause-refusals
 returns-clause-refusals g c are =
-    refusals_end (fixed_in g.A.Action.meaning c.args.words.now) (command_of c.args.cmd.now) c.in_ok-held.held c.own_again-again.result _ c.args.hand.now c.hold_leaves.new.hand c.own_again-again.new.hand c.in_ok-held.ensures.holds c.own_again-again.ensures.view c.read_effect-effect.result c.read_effect-effect.new.hand (has_read (fixed_in g.A.Action.meaning c.args.words.now) c.own_again-again.new.hand c.read_nodes.new.hand c.read_effect-effect.new.hand c.in_ok-seen.ensures.view c.read_effect-effect.ensures.view c.read_effect-effect.result c.in_ok-seen.ensures.tried c.read_effect-effect.ensures.effect) c.in_ok-place.place c.write_effect.new.hand c.in_ok-place.ensures.written c.return_leaves.new.hand c.return_leaves.ensures.view _
+    refusals_end (fixed_in g.A.Action.meaning c.args.words.now) (command_of c.args.cmd.now) c.own_words-own.result c.own_again-again.result _ c.args.hand.now c.take_leaves.new.hand c.own_again-again.new.hand (holds_leaves (fixed_in g.A.Action.meaning c.args.words.now) (command_of c.args.cmd.now) c.own_words-own.result c.args.hand.now c.own_words-own.new.hand c.take_leaves.new.hand c.own_words-own.ensures.view c.in_ok-take_leaves.ensures.view c.in_ok-take_leaves.ensures.tried) c.own_again-again.ensures.view c.read_effect-effect.result c.read_effect-effect.new.hand (has_read (fixed_in g.A.Action.meaning c.args.words.now) c.own_again-again.new.hand c.read_nodes.new.hand c.read_effect-effect.new.hand c.in_ok-seen.ensures.view c.read_effect-effect.ensures.view c.read_effect-effect.result c.in_ok-seen.ensures.tried c.read_effect-effect.ensures.effect) c.in_ok-place.place c.write_effect.new.hand c.in_ok-place.ensures.written c.return_leaves.new.hand c.return_leaves.ensures.view _
     (c.write_effect.ensures.refusals (read_refusals (fixed_in g.A.Action.meaning c.args.words.now) c.own_again-again.new.hand c.read_nodes.new.hand c.read_effect-effect.new.hand c.in_ok-seen.ensures.view c.read_effect-effect.ensures.view _ (c.in_ok-seen.ensures.refusals
-    (refusals_again (fixed_in g.A.Action.meaning c.args.words.now) (command_of c.args.cmd.now) c.in_ok-held.held c.own_again-again.result _ c.args.hand.now c.hold_leaves.new.hand c.own_again-again.new.hand c.in_ok-held.ensures.holds c.own_again-again.ensures.view _ (c.hold_leaves.ensures.refusals are)))))
+    (refusals_again (fixed_in g.A.Action.meaning c.args.words.now) (command_of c.args.cmd.now) c.own_words-own.result c.own_again-again.result _ c.args.hand.now c.take_leaves.new.hand c.own_again-again.new.hand (holds_leaves (fixed_in g.A.Action.meaning c.args.words.now) (command_of c.args.cmd.now) c.own_words-own.result c.args.hand.now c.own_words-own.new.hand c.take_leaves.new.hand c.own_words-own.ensures.view c.in_ok-take_leaves.ensures.view c.in_ok-take_leaves.ensures.tried) c.own_again-again.ensures.view _ (c.take_leaves.ensures.refusals (refusals_begun (fixed_in g.A.Action.meaning c.args.words.now) (command_of c.args.cmd.now) c.own_words-own.result c.args.hand.now c.own_words-own.new.hand c.take_leaves.new.hand c.own_words-own.ensures.view _ are))))))
