@@ -1,9 +1,9 @@
-use Rattle.std.proofs.Common.{sym, ap, ◌∙◌, subst}
+use Rattle.std.proofs.Common.{ℕ, List, sym, ap, ◌∙◌, subst}
 use Rattle.entity_recs.specs.Commands.{Command, command_of}
 use Rattle.core_steps.specs.Nodes.{Fixed}
 use Rattle.ruled_words.specs.Passes.{PassView, fixed_in}
 use Rattle.core_steps.specs.Reads.{region_in}
-use Rattle.ruled_words.specs.Straight.{AreHeldFor}
+use Rattle.ruled_words.specs.Straight.{AreHeldFor, HasKept}
 use Rattle.ruled_words.proofs.GivingUp.{none_refused_yet, on_err}
 use Rattle.shared_moves.specs.Points.{MomentView}
 use Rattle.shared_moves.proofs.Runs.{some_entry, held_point, holds_leaves, begun_in_hand, none_begun, refusals_begun, first_visit, held_again, held_read, has_read, none_while_read, read_refusals, known_point, cmd_again, in_hand_known, again_still, committed_point, refusals_again, refusals_end, in_hand_again, in_hand_read, has_left, none_end, has_moved}
@@ -74,6 +74,10 @@ read_effect-effect-requires-clause-cmd_is g c κs within =
 pub read_effect-effect-requires-clause-again_is : goal.read_effect-effect-requires-clause-again_is
 read_effect-effect-requires-clause-again_is g c κs within =
     sym (ap (λ (p : PassView). p.view.again) c.in_ok-seen.ensures.view ∙ ap (λ (p : PassView). p.view.again) c.own_again-again.ensures.view)
+
+pub read_effect-effect-requires-clause-kept : goal.read_effect-effect-requires-clause-kept
+read_effect-effect-requires-clause-kept g c κs within =
+    subst (λ (by_slot : List (List ℕ)). HasKept c.in_ok-seen.seen by_slot c.read_nodes.new.hand.view.others) (sym c.deref.ensures) c.in_ok-seen.ensures.kept
 
 pub at_effect-requires-clause-at : goal.at_effect-requires-clause-at
 at_effect-requires-clause-at g c κs within =
