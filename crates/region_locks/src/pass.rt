@@ -9,9 +9,9 @@ use core_machine::{Point, Seat};
 use entity_recs::{Effect, SLOTS};
 use move_journal::Log;
 use ruled_words::Hand;
+use shared_moves::MoveRoom;
 use std::alloc::{AllocError, Global};
 use std::marker::{Model, PhantomData};
-use world_tree::NearList;
 
 // What the place at the table has in view is known to clauses alone, so the pass keeps the same in plain values: its seat.
 /// A worker's seat at the table.
@@ -20,7 +20,7 @@ pub struct Pass<A> {
     pub(crate) hand: Hand,
     pub(crate) seat: Seat,
     pub(crate) effect: Option<Effect>,
-    pub(crate) near: NearList,
+    pub(crate) room: MoveRoom,
     of: PhantomData<A>,
 }
 
@@ -32,13 +32,13 @@ impl<A> Model for Pass<A> {
 
     ghost view = { λ p. pass_view p.hand p.seat p.effect };
 
-    ghost invariant = { λ p. HasItsLists p.hand p.seat p.near };
+    ghost invariant = { λ p. HasItsLists p.hand p.seat p.room.near };
 }
 
 impl<A> Pass<A> {
     /// The pass of a hand whose seat is new, with room for `room` entries, and from which `made` seats are made: with the
-    /// same seat in plain values, and a near list of its own, in which there is room for all that a move can touch where
-    /// `records` records live at the start. The only error is that memory is refused.
+    /// same seat in plain values, and room of its own for what a move reads: for all that it can touch where `records`
+    /// records live at the start. The only error is that memory is refused.
     pub(crate) fn new(
         alloc: Global,
         hand: Hand,
@@ -54,7 +54,7 @@ impl<A> Pass<A> {
             hand,
             seat: Seat::new(alloc, room, made, records)?,
             effect: None,
-            near: NearList::new(alloc, SLOTS + records)?,
+            room: MoveRoom::new(alloc, SLOTS + records)?,
             of: PhantomData,
         })
     }

@@ -62,13 +62,12 @@ nodes_read F view new = record view {
   refused = new.refused;
 }
 
--- these are the slot, the own record, the region, the leaves and the inner nodes of this command, by these words of the
+-- these are the slot, the own record, and the leaves and inner nodes of the region of this command, by these words of the
 -- own record, and these are its wanted nodes
 pub record AreOfCommand (F : Fixed) (held : Held) (c : Command) (own wanted : List ℕ) : Type 0 where
   pub slot_is : held.slot ≡ c.slot
   pub own_is : held.own ≡ own
   pub six : length held.own ≡ 6
-  pub region_is : held.region ≡ region_in F c own
   pub leaves_are : held.leaves ≡ leaves_of F.tree (region_in F c own)
   pub inner_are : held.inner ≡ visited_of F.tree.depth held.leaves % 2 ^ inner_nodes F
   pub wanted_is : held.wanted.items ≡ wanted

@@ -1,4 +1,3 @@
-use arena_geo::Region;
 use core_seats::{LoadedPlayer, NodeQueue};
 
 /// What a move takes, reads and writes, by the own record as it was loaded when its command began.
@@ -8,9 +7,7 @@ pub struct Held {
     pub slot: u8,
     /// The words of the own record.
     pub own: LoadedPlayer,
-    /// Where the move may read and write.
-    pub region: Region,
-    /// The leaves of the region, bit i for leaf i.
+    /// The leaves of its region, bit i for leaf i.
     pub leaves: u32,
     /// The inner nodes that are visited for these leaves, bit i for node i.
     pub inner: u32,

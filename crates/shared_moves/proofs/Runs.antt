@@ -16,14 +16,14 @@ use Rattle.ruled_words.specs.GivingUp.{NoTakeWasRefused, HasGivenUp, IsRefusedBy
 use Rattle.ruled_words.specs.Sights.{HeldWord, Tally}
 use Rattle.ruled_words.specs.Passes.{PassView}
 use Rattle.ruled_words.specs.Hands.{pass_keeping}
-use Rattle.ruled_words.specs.Straight.{in_view, in_view_with, taking_leaves, at_point, nodes_read, AreOfCommand, AreHeldFor, HasMoreInFront, IsTriedOn}
+use Rattle.ruled_words.specs.Straight.{in_view, in_view_with, taking_leaves, at_point, nodes_read, AreHeldFor, HasMoreInFront, IsTriedOn}
 use Rattle.ruled_words.specs.declared.held.Held.{Held}
 use Rattle.ruled_words.specs.Tries.{tried_until}
 use Rattle.ruled_words.specs.Writing.{HasWritten, all_written}
 use Rattle.shared_moves.specs.declared.gate_point.GatePoint.TheVariants.{Leaves, Computed, Committed}
 use Rattle.shared_moves.specs.InHand.{HoldsLeavesAlone, command_pursued, is_checking, item_of}
 use Rattle.shared_moves.specs.Moments.{IsAtPoint}
-use Rattle.shared_moves.specs.Runs.{HoldsLeavesOf, HasReadAll, HasMoved, HasLeft, HasInHand, all_read}
+use Rattle.shared_moves.specs.Runs.{AreHeldBy, HoldsLeavesOf, HasReadAll, HasMoved, HasLeft, HasInHand, all_read}
 use Rattle.ruled_words.proofs.GivingUp.{none_refused_yet}
 use Rattle.ruled_words.proofs.LoadedWords.{visiting_same}
 use Rattle.ruled_words.proofs.TriedTakes.{more_again, more_still, tried_again}
@@ -76,6 +76,9 @@ module _ (F : Fixed) (c : Command) (words : List ℕ) (old at new : PassView) (f
 
   pub none_begun : NoTakeWasRefused old at
   none_begun = none_at old at _ _ first refl refl refl
+
+  pub refusals_begun : (r : Refusals) → AreRefusals r old.view → AreRefusals r at.view
+  refusals_begun r are = refusals_kept r old.view at.view (sym (ap (λ (p : PassView). p.view.refusals) first)) (sym (ap (λ (p : PassView). p.view.refused) first)) are
 
   module _ (second : new ≡ tried_until at Checking new) where
     pub held_point : IsAtPoint new Leaves
@@ -142,23 +145,19 @@ module _ (F : Fixed) (old at new : PassView) (first : at ≡ in_view_with old (n
     alone = subst (λ (p : PassView). HoldsLeavesAlone (pass_keeping p e)) (sym both) (record { busy = refl; leaves = refl; inner = λ G. refl; stores = refl });
   }
 
--- what is held by a command is held where a view has the same command, own record and wanted leaves
-pub held_still : (F : Fixed) (held : Held) (v w : View) → w.cmd ≡ v.cmd → w.own ≡ v.own → w.wanted ≡ v.wanted → AreHeldFor F held v → AreHeldFor F held w
-held_still F held v w cmd own wanted are =
-    subst (λ (c : Command). AreOfCommand F held c w.own w.wanted) (sym cmd)
-    (subst (λ (words : List ℕ). AreOfCommand F held v.cmd words w.wanted) (sym own)
-    (subst (λ (nodes : List ℕ). AreOfCommand F held v.cmd v.own nodes) (sym wanted) are))
-
 -- ---- the whole move
 
-module _ (F : Fixed) (c : Command) (held : Held) (words : List ℕ) (q : Point) (h0 h1 h2 : PassView)
-    (holds : HoldsLeavesOf F c held.own h0 h1) (again : h2 ≡ in_view h1 (record h1.view { again = words; point = q })) where
+module _ (F : Fixed) (c : Command) (own words : List ℕ) (q : Point) (h0 h1 h2 : PassView)
+    (holds : HoldsLeavesOf F c own h0 h1) (again : h2 ≡ in_view h1 (record h1.view { again = words; point = q })) where
   -- the view after the own record was loaded again
   abbrev checked_view : View
-  checked_view = record (at_point (taking_leaves F c held.own h0.view) Checking h1.view) { again = words; point = q }
+  checked_view = record (at_point (taking_leaves F c own h0.view) Checking h1.view) { again = words; point = q }
 
   at_again : h2 ≡ in_view_with h0 checked_view h1.tally
   at_again = again ∙ ap (λ (p : PassView). in_view p (record p.view { again = words; point = q })) holds.hand
+
+  pub held_again : (held : Held) → AreHeldBy F held c own → AreHeldFor F held h2.view
+  held_again held are = subst (λ (p : PassView). AreHeldFor F held p.view) (sym at_again) are
 
   pub cmd_again : h2.view.cmd ≡ c
   cmd_again = ap (λ (p : PassView). p.view.cmd) at_again
@@ -181,6 +180,9 @@ module _ (F : Fixed) (c : Command) (held : Held) (words : List ℕ) (q : Point) 
   module _ (e : Effect) (h3 : PassView) (read : HasReadAll F e h2 h3) where
     at_read : h3 ≡ in_view_with h0 (all_read checked_view h3.view) h3.tally
     at_read = read.hand ∙ ap (λ (p : PassView). in_view_with p (all_read p.view h3.view) h3.tally) at_again
+
+    pub held_read : (held : Held) → AreHeldBy F held c own → AreHeldFor F held h3.view
+    held_read held are = subst (λ (p : PassView). AreHeldFor F held p.view) (sym at_read) are
 
     pub none_read : NoTakeWasRefused h0 h1 → NoTakeWasRefused h2 h3 → NoTakeWasRefused h0 h3
     none_read one two = none_refused_yet h0 h2 h3 (none_refused_yet h0 h1 h2 one none_again) two

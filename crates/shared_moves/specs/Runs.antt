@@ -3,14 +3,18 @@ use Rattle.std.specs.Prelude.{◌≡◌, ℕ, suc, ◌+◌, ◌^◌, ◌<◌, �
 use Rattle.entity_recs.specs.declared.effect.Effect.{Effect}
 use Rattle.entity_recs.specs.declared.effect.Entry.{Entry}
 use Rattle.entity_recs.specs.Commands.{Command}
-use Rattle.core_steps.specs.Nodes.{Fixed}
+use Rattle.core_steps.specs.Nodes.{Fixed, leaf_nodes}
 use Rattle.core_steps.specs.Points.{Checking, Resolving}
-use Rattle.core_steps.specs.Reads.{Refused, View, effect_loaded}
-use Rattle.core_steps.specs.Reads.{without_command}
+use Rattle.core_steps.specs.Reads.{Refused, View, effect_loaded, region_in, without_command}
 use Rattle.ruled_words.specs.GivingUp.{IsRefusedBy, view_after_giving_up}
 use Rattle.ruled_words.specs.Passes.{PassView}
-use Rattle.ruled_words.specs.Straight.{in_view_with, taking_leaves, at_point, HasMoreInFront, IsTriedOn}
+use Rattle.ruled_words.specs.Straight.{in_view_with, taking_leaves, at_point, AreOfCommand, HasMoreInFront, IsTriedOn}
+use Rattle.ruled_words.specs.declared.held.Held.{Held}
 use Rattle.shared_moves.specs.InHand.{item_of}
+
+-- this is what the command holds, by its own record as it was loaded
+abbrev pub AreHeldBy : Fixed → Held → Command → List ℕ → Type 0
+AreHeldBy F held c own = AreOfCommand F held c own (leaf_nodes F (region_in F c own))
 
 -- the hand began the command, by its own record as it was loaded, and holds its leaves
 pub record HoldsLeavesOf (F : Fixed) (c : Command) (own : List ℕ) (old new : PassView) : Type 0 where

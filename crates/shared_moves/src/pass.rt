@@ -6,25 +6,25 @@ ghost use Rattle.shared_moves.specs.PassParts.{IsFresh};
 ghost use Rattle.shared_moves.specs.Closing.{log_from};
 ghost use Rattle.shared_moves.specs.InHand.{item_of};
 
+use crate::move_room::MoveRoom;
 use core_seats::Refusals;
 use entity_recs::Entry;
 use move_journal::{Log, same_entry};
 use ruled_words::Hand;
 use std::alloc::{AllocError, Global};
 use std::marker::{Model, PhantomData};
-use world_tree::NearList;
 
 /// The passes of a shared world, in rising number.
 pub type PassList<A> = Vec<Pass<A>>;
 
 /// A worker's seat at the shared words of a frame: its hand, the entries that it has committed, its refused takes, and
-/// room for what is near a move.
+/// room for what a move reads.
 #[derive(Drop)]
 pub struct Pass<A> {
     pub(crate) hand: Hand,
     pub(crate) log: Log,
     pub(crate) refusals: Refusals,
-    pub(crate) near: NearList,
+    pub(crate) room: MoveRoom,
     of: PhantomData<A>,
 }
 
@@ -36,7 +36,7 @@ impl<A> Model for Pass<A> {
 
     ghost view = { λ p. p.hand };
 
-    ghost invariant = { λ p. IsKeptBeside p.hand p.log p.refusals p.near };
+    ghost invariant = { λ p. IsKeptBeside p.hand p.log p.refusals p.room.near };
 }
 
 impl<A> Pass<A> {
@@ -55,7 +55,7 @@ impl<A> Pass<A> {
             hand,
             log: Log::new(alloc, room)?,
             refusals: Refusals::new(),
-            near: NearList::new(alloc, near_room)?,
+            room: MoveRoom::new(alloc, near_room)?,
             of: PhantomData,
         })
     }

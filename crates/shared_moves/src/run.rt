@@ -32,7 +32,7 @@ impl<'a, A: Action> Shared<'a, A> {
             &Waiting { rt },
             &mut pass.hand,
             &mut pass.refusals,
-            &mut pass.near,
+            &mut pass.room,
             &cmd,
             gate,
         );
@@ -72,7 +72,7 @@ impl<'a, A: Action> Shared<'a, A> {
             &AtOnce,
             &mut pass.hand,
             &mut pass.refusals,
-            &mut pass.near,
+            &mut pass.room,
             &cmd,
             gate,
         ) {

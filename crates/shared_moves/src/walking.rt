@@ -3,20 +3,21 @@ ghost use Rattle.entity_recs.specs.Commands.{command_of};
 ghost use Rattle.entity_recs.specs.Histories as histories;
 ghost use Rattle.core_steps.specs.Machine.{IsPending};
 ghost use Rattle.core_steps.specs.Points.{Idle};
+ghost use Rattle.core_steps.specs.Reads.{region_in};
 ghost use Rattle.core_seats.specs.Refusals.{AreRefusals};
 ghost use Rattle.ruled_words.specs.GivingUp.{NoTakeWasRefused};
 ghost use Rattle.ruled_words.specs.Hands.{IsOwnHand, plain_pass};
 ghost use Rattle.ruled_words.specs.Passes.{fixed_in, IsOwn};
-ghost use Rattle.ruled_words.specs.Straight.{AreHeldFor};
-ghost use Rattle.shared_moves.specs.Runs.{HoldsLeavesOf, HasMoved, HasLeft};
+ghost use Rattle.shared_moves.specs.Runs.{AreHeldBy, HasMoved, HasLeft};
 
 use crate::gate::{Gate, show_moment};
 use crate::moment::Moment;
-use core_seats::Refusals;
+use crate::move_room::MoveRoom;
+use arena_geo::Region;
+use core_seats::{LoadedPlayer, Refusals};
 use entity_recs::{Action, Cmd, Effect, Entry};
 use move_journal::same_reply;
 use ruled_words::{GivenUp, Hand, Held, Patience, SharedWords};
-use world_tree::NearList;
 
 /// The entry of a move that was committed at this place.
 fn entry_of(place: u64, cmd: &Cmd, effect: &Effect) -> Entry
@@ -30,57 +31,38 @@ fn entry_of(place: u64, cmd: &Cmd, effect: &Effect) -> Entry
     }
 }
 
-/// Loads the own record for the command, and takes the leaves of its region. `Err` where one was
-/// held: the command is then given up.
-fn hold_leaves<A: Action, P: Patience, G: Gate>(
+/// What the command takes, reads and writes, by these words of the own record and the region that they give.
+fn held_for<A: Action>(
     words: &SharedWords<A>,
-    patience: &P,
-    hand: &mut Hand,
-    refusals: &mut Refusals,
     cmd: &Cmd,
-    gate: &G,
-) -> Result<Held, GivenUp>
-    requires own { IsOwn A.meaning words.now (plain_pass hand.old) }
-    requires idle { hand.old.view.point ≡ Idle }
-    requires pending { IsPending (fixed_in A.meaning words.now) hand.old.view (command_of cmd.now) }
-    requires serves { cmd.now.slot % length words.now.rooms ≡ hand.old.number }
-    ensures own { IsOwnHand A.meaning words.now hand.new }
-    ensures holds { IfOk result (λ held. HoldsLeavesOf (fixed_in A.meaning words.now) (command_of cmd.now) held.own
-        hand.old hand.new) }
-    ensures held { IfOk result (λ held. AreHeldFor (fixed_in A.meaning words.now) held hand.new.view) }
-    ensures served { OnOk result (P.waits ≡ false → NoTakeWasRefused hand.old hand.new) }
-    ensures at_once { OnErr result (P.waits ≡ false) }
-    ensures left { OnErr result
-        (HasLeft (fixed_in A.meaning words.now) (length words.now.rooms) (command_of cmd.now) hand.old hand.new) }
-    ensures refusals { AreRefusals refusals.old hand.old.view → AreRefusals refusals.new hand.new.view }
+    own: LoadedPlayer,
+    region: &Region,
+) -> Held
+    requires six { length own ≡ 6 }
+    requires region_is { region.now ≡ region_in (fixed_in A.meaning words.now) (command_of cmd.now) own }
+    ensures { AreHeldBy (fixed_in A.meaning words.now) result (command_of cmd.now) own }
 {
-    let own = words.own_words(hand, cmd);
-    let region = words.region_of(hand, cmd, &own);
     let rules = words.rules();
-    let (leaves, inner) = rules.node_bits(&region);
+    let (leaves, inner) = rules.node_bits(region);
     let wanted = rules.nodes_of(leaves);
-    let held = Held {
+    Held {
         slot: cmd.slot,
         own,
-        region,
         leaves,
         inner,
         wanted,
-    };
-    words.take_leaves(patience, hand, refusals, &held)?;
-    gate.at(&Moment::at_leaves(hand, cmd));
-    Ok(held)
+    }
 }
 
-/// Runs the command on a hand that rests, and gives its entry. The near list has room for 64 records and all that live at
-/// the start. `Err` where a node was held, and the patience doesn't wait for it: all that the hand held is given back, and
-/// the command is no longer in hand.
+/// Runs the command on a hand that rests, and gives its entry. There is room for 64 records near it and all that live at the
+/// start. `Err` where a node was held, and the patience doesn't wait for it: all that the hand held is given back, and the
+/// command is no longer in hand.
 pub fn walk<A: Action, P: Patience, G: Gate>(
     words: &SharedWords<A>,
     patience: &P,
     hand: &mut Hand,
     refusals: &mut Refusals,
-    near: &mut NearList,
+    room: &mut MoveRoom,
     cmd: &Cmd,
     gate: &G,
 ) -> Result<Entry, GivenUp>
@@ -88,7 +70,7 @@ pub fn walk<A: Action, P: Patience, G: Gate>(
     requires idle { hand.old.view.point ≡ Idle }
     requires pending { IsPending (fixed_in A.meaning words.now) hand.old.view (command_of cmd.now) }
     requires serves { cmd.now.slot % length words.now.rooms ≡ hand.old.number }
-    requires room { 64 + length (fixed_in A.meaning words.now).start.ids ≤ near.old.room }
+    requires room { 64 + length (fixed_in A.meaning words.now).start.ids ≤ room.old.near.room }
     ensures own { IsOwnHand A.meaning words.now hand.new }
     ensures moved { IfOk result (λ e. HasMoved (command_of cmd.now) e hand.old hand.new) }
     ensures served { OnOk result (P.waits ≡ false → NoTakeWasRefused hand.old hand.new) }
@@ -96,13 +78,24 @@ pub fn walk<A: Action, P: Patience, G: Gate>(
     ensures left { OnErr result
         (HasLeft (fixed_in A.meaning words.now) (length words.now.rooms) (command_of cmd.now) hand.old hand.new) }
     ensures refusals { AreRefusals refusals.old hand.old.view → AreRefusals refusals.new hand.new.view }
-    ensures room { near.new.room ≡ near.old.room }
+    ensures room { room.new.near.room ≡ room.old.near.room }
 {
-    let held = hold_leaves(words, patience, hand, refusals, cmd, gate)?;
+    let own = words.own_words(hand, cmd);
+    let region = words.region_of(hand, cmd, &own);
+    let held = held_for(words, cmd, own, &region);
+    words.take_leaves(patience, hand, refusals, &held)?;
+    gate.at(&Moment::at_leaves(hand, cmd));
     let again = words.own_again(hand, cmd.slot);
-    let mut by_slot = [[0; 6]; 64];
-    let seen = words.read_nodes(patience, hand, refusals, &held, &mut by_slot)?;
-    let effect = words.read_effect(hand, near, cmd, &held.region, &again, seen, &by_slot);
+    let seen = words.read_nodes(patience, hand, refusals, &held, &mut room.by_slot)?;
+    let effect = words.read_effect(
+        hand,
+        &mut room.near,
+        cmd,
+        &region,
+        &again,
+        seen,
+        &room.by_slot,
+    );
     gate.at(&Moment::at_effect(words, hand, cmd, &effect));
     let place = words.write_effect(patience, hand, refusals, &held, &again, &effect)?;
     let committed = Moment::at_commit(hand, cmd, entry_of(place, cmd, &effect));

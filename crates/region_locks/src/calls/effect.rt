@@ -15,7 +15,7 @@ impl<'a, A: Action> NodeTable<'a, A> {
         ensures effect { result ≡ effect_loaded (fixed_in A.meaning self.now) pass.old.view }
         ensures pass { pass.new ≡ pass.old }
     {
-        let Some(effect) = pass.seat.resolved(self.rules(), &mut pass.near) else {
+        let Some(effect) = pass.seat.resolved(self.rules(), &mut pass.room.near) else {
             unreachable!()
         };
         effect

@@ -36,7 +36,7 @@ impl<'a, A: Action> NodeTable<'a, A> {
             &AtOnce,
             &mut pass.hand,
             &mut pass.seat.refusals,
-            &mut pass.near,
+            &mut pass.room,
             &cmd,
             &NoGate,
         ) {

@@ -37,14 +37,14 @@ follow-requires-clause-ready g c κs within =
 pub follow-requires-clause-things : goal.follow-requires-clause-things
 follow-requires-clause-things g c κs within =
     let same = ap (fixed_of g.A.Action.meaning) c.rules.ensures in
-    things_room_for (fixed_in g.A.Action.meaning c.args.self.now) _ (length c.args.self.now.rooms) c.args.self.now.table c.args.pass.now c.pass.inside.hand c.pass.inside.seat c.pass.inside.effect c.pass.inside.near same c.pass.view_is c.requires.own c.pass.invariant
+    things_room_for (fixed_in g.A.Action.meaning c.args.self.now) _ (length c.args.self.now.rooms) c.args.self.now.table c.args.pass.now c.pass.inside.hand c.pass.inside.seat c.pass.inside.effect c.pass.inside.room.near same c.pass.view_is c.requires.own c.pass.invariant
 
 pub invariant_of-pass : goal.invariant_of-pass
 invariant_of-pass g c =
     let gone : HasGone (fixed_in g.A.Action.meaning c.args.self.now) (length c.args.self.now.rooms) c.args.pass.now c.step_beside-found.result c.step_beside-found.new.hand =
     of_hand (λ t q. HasGone (fixed_in g.A.Action.meaning t) (length t.rooms) q c.step_beside-found.result c.step_beside-found.new.hand) _ _ _ _ (sym c.self.view_is) (sym (beside_is _ _ _ _ _ c.pass.view_is c.pass.invariant)) c.step_beside-found.ensures.gone in
     let same = ap (fixed_of g.A.Action.meaning) c.rules.ensures in
-    lists_kept (fixed_in g.A.Action.meaning c.args.self.now) (length c.args.self.now.rooms) c.args.self.now.table c.args.pass.now c.step_beside-found.result c.pass.inside.hand c.step_beside-found.new.hand c.pass.inside.seat c.follow.new.seat c.pass.inside.effect c.follow.new.effect c.pass.inside.near c.pass.view_is c.requires.own c.pass.invariant
+    lists_kept (fixed_in g.A.Action.meaning c.args.self.now) (length c.args.self.now.rooms) c.args.self.now.table c.args.pass.now c.step_beside-found.result c.pass.inside.hand c.step_beside-found.new.hand c.pass.inside.seat c.follow.new.seat c.pass.inside.effect c.follow.new.effect c.pass.inside.room.near c.pass.view_is c.requires.own c.pass.invariant
     (stepped (fixed_in g.A.Action.meaning c.args.self.now) _ (length c.args.self.now.rooms) c.args.self.now.table c.args.pass.now c.step_beside-found.result c.pass.inside.hand c.step_beside-found.new.hand c.pass.inside.seat c.follow.new.seat c.pass.inside.effect c.follow.new.effect same c.pass.view_is c.requires.own c.requires.comes gone
     c.follow.ensures.view c.follow.ensures.given c.follow.ensures.quits c.follow.ensures.effect)
     c.follow.ensures.things

@@ -29,8 +29,8 @@ walk-requires-clause-own g c κs within =
 
 pub walk-requires-clause-room : goal.walk-requires-clause-room
 walk-requires-clause-room g c κs within =
-    subst (λ (t : TableView _). 64 + length (fixed_in g.A.Action.meaning t).start.ids ≤ c.pass.inside.near.room) (sym c.self.view_is)
-    (near_room_for (fixed_in g.A.Action.meaning c.args.self.now) (length c.args.self.now.rooms) c.args.self.now.table c.args.pass.now c.pass.inside.hand c.pass.inside.seat c.pass.inside.effect c.pass.inside.near
+    subst (λ (t : TableView _). 64 + length (fixed_in g.A.Action.meaning t).start.ids ≤ c.pass.inside.room.near.room) (sym c.self.view_is)
+    (near_room_for (fixed_in g.A.Action.meaning c.args.self.now) (length c.args.self.now.rooms) c.args.self.now.table c.args.pass.now c.pass.inside.hand c.pass.inside.seat c.pass.inside.effect c.pass.inside.room.near
     c.pass.view_is c.requires.own c.pass.invariant)
 
 pub returns-in-Ok-clause-ok : goal.returns-in-Ok-clause-ok

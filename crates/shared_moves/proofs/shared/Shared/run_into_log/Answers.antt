@@ -17,9 +17,9 @@ walk-walked-requires-clause-own g c κs within =
 
 pub walk-walked-requires-clause-room : goal.walk-walked-requires-clause-room
 walk-walked-requires-clause-room g c κs within =
-    subst (λ (t : TableView _). 64 + length (fixed_in g.A.Action.meaning t).start.ids ≤ c.pass.inside.near.room) (sym c.self.view_is)
-    (near_room (fixed_in g.A.Action.meaning c.args.self.now) (length c.args.self.now.rooms) c.args.self.now.table c.args.pass.now c.pass.inside.log c.pass.inside.refusals c.pass.inside.near c.requires.own
-    (subst (λ (p : PassView). IsKeptBeside p c.pass.inside.log c.pass.inside.refusals c.pass.inside.near) c.pass.view_is c.pass.invariant))
+    subst (λ (t : TableView _). 64 + length (fixed_in g.A.Action.meaning t).start.ids ≤ c.pass.inside.room.near.room) (sym c.self.view_is)
+    (near_room (fixed_in g.A.Action.meaning c.args.self.now) (length c.args.self.now.rooms) c.args.self.now.table c.args.pass.now c.pass.inside.log c.pass.inside.refusals c.pass.inside.room.near c.requires.own
+    (subst (λ (p : PassView). IsKeptBeside p c.pass.inside.log c.pass.inside.refusals c.pass.inside.room.near) c.pass.view_is c.pass.invariant))
 
 pub unwrap-requires : goal.unwrap-requires
 unwrap-requires g c = waits_on c.walk-walked.result c.walk-walked.ensures.at_once

@@ -21,9 +21,9 @@ walk-requires-clause-own g c κs within =
 
 pub walk-requires-clause-room : goal.walk-requires-clause-room
 walk-requires-clause-room g c κs within =
-    subst (λ (t : TableView _). 64 + length (fixed_in g.A.Action.meaning t).start.ids ≤ c.pass.inside.near.room) (sym c.self.view_is)
-    (near_room (fixed_in g.A.Action.meaning c.args.self.now) (length c.args.self.now.rooms) c.args.self.now.table c.args.pass.now c.pass.inside.log c.pass.inside.refusals c.pass.inside.near c.requires.own
-    (subst (λ (p : PassView). IsKeptBeside p c.pass.inside.log c.pass.inside.refusals c.pass.inside.near) c.pass.view_is c.pass.invariant))
+    subst (λ (t : TableView _). 64 + length (fixed_in g.A.Action.meaning t).start.ids ≤ c.pass.inside.room.near.room) (sym c.self.view_is)
+    (near_room (fixed_in g.A.Action.meaning c.args.self.now) (length c.args.self.now.rooms) c.args.self.now.table c.args.pass.now c.pass.inside.log c.pass.inside.refusals c.pass.inside.room.near c.requires.own
+    (subst (λ (p : PassView). IsKeptBeside p c.pass.inside.log c.pass.inside.refusals c.pass.inside.room.near) c.pass.view_is c.pass.invariant))
 
 pub returns-in-Ok-clause-ok : goal.returns-in-Ok-clause-ok
 returns-in-Ok-clause-ok g c =
