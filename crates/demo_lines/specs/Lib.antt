@@ -9,6 +9,7 @@ pub mod Packets
 pub mod Words
 pub mod Lines
 pub mod Machines
+pub mod Kinds
 pub mod Known
 pub mod Faults
 pub mod Recording

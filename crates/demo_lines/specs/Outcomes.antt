@@ -7,6 +7,7 @@ use Rattle.edge_io.specs.declared.source.Source as sources
 use Rattle.edge_io.specs.Counts.{HasRisen}
 use Rattle.edge_io.specs.Lines.{ahead, HasNotReadAhead}
 use Rattle.demo_lines.specs.declared.event.Event.{Event}
+use Rattle.demo_lines.specs.declared.event.EventKind.{EventKind}
 use Rattle.demo_lines.specs.declared.event.Event.TheVariants.{End}
 use Rattle.demo_lines.specs.declared.demo_stop.DemoStop.{DemoStop}
 use Rattle.demo_lines.specs.Known.{Reading}
@@ -21,7 +22,7 @@ abbrev pub reader_without_stop : List ℕ → Reading → Bool → DemoReaderVie
 reader_without_stop pending reading cut = record { pending = pending; reading = reading; stop = None; cut = cut }
 
 -- a reader after a call that gave this: it keeps the stop
-abbrev pub reader_after : List ℕ → Reading → Bool → Result Event DemoStop → DemoReaderView
+abbrev pub reader_after : List ℕ → Reading → Bool → Result EventKind DemoStop → DemoReaderView
 reader_after pending reading cut result =
     record { pending = pending; reading = reading; stop = result_err result; cut = cut }
 

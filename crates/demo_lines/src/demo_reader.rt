@@ -1,11 +1,12 @@
 use crate::demo_stop::DemoStop;
-use crate::event::Event;
+use crate::event::{Event, EventKind, no_arrival};
 use crate::next_event::next_event;
 use crate::reading::Reading;
 use crate::rest::{RestBuf, next_rest};
 use crate::stage::Stage;
 use arena_map::{ArenaMap, MOST_FRAMES};
 use edge_io::{LineBuf, LineReader, Source};
+use packet_read::Arrival;
 use std::alloc::{AllocError, Global};
 use std::marker::Model;
 
@@ -34,6 +35,7 @@ impl Model for DemoReader {
 impl DemoReader {
     ghost use Rattle.std.specs.Prelude.{◌≡◌, ◌≤◌, true, false, [], Ok, Err, None, IfOk, IfErr, IfSome};
     ghost use Rattle.std.specs.Bool.{OnTrue, OnFalse};
+    ghost use Rattle.demo_lines.specs.Kinds.{event_of_kind};
     ghost use Rattle.demo_lines.specs.Known.{is_map_whole, is_refused};
     ghost use Rattle.demo_lines.specs.Readings.{IsReading};
     ghost use Rattle.demo_lines.specs.Reads.{fresh_reader, fresh_within, map_taken};
@@ -98,11 +100,34 @@ impl DemoReader {
         ensures ended { self.old.stop ≡ None → self.old.reading.stage ≡ Stage.Ended →
             (result ≡ Ok Event.End) × (self.new ≡ self.old) × (source.new ≡ source.old) }
     {
+        let mut arrival = no_arrival();
+        match self.next_into(alloc, source, &mut arrival) {
+            Ok(kind) => Ok(kind.with_packet(arrival)),
+            Err(stop) => Err(stop),
+        }
+    }
+
+    /// Reads up to the next event, as [`next`](Self::next) does, and puts its packet, where it has one, into `arrival`
+    /// in place of the one there: so a packet isn't moved. What is there after another event or a stop isn't said.
+    pub fn next_into<S: Source>(
+        &mut self,
+        alloc: Global,
+        source: &mut S,
+        arrival: &mut Arrival,
+    ) -> Result<EventKind, DemoStop>
+        ensures event { IfOk result (λ kind. GivesEvent S.Source self.old self.new source.old source.new
+            (event_of_kind kind arrival.new)) }
+        ensures stop { IfErr result (IsStoppedBy S.Source self.old self.new source.old source.new) }
+        ensures stopped { IfSome self.old.stop (λ stop.
+            (result ≡ Err stop) × (self.new ≡ self.old) × (source.new ≡ source.old)) }
+        ensures ended { self.old.stop ≡ None → self.old.reading.stage ≡ Stage.Ended →
+            (result ≡ Ok EventKind.End) × (self.new ≡ self.old) × (source.new ≡ source.old) }
+    {
         if let Some(stop) = self.stop {
             return Err(stop);
         }
         if self.reading.stage() == Stage::Ended {
-            return Ok(Event::End);
+            return Ok(EventKind::End);
         }
         let result = next_event(
             alloc,
@@ -111,6 +136,7 @@ impl DemoReader {
             &mut self.reading,
             &mut self.is_cut,
             source,
+            arrival,
         );
         self.stop = result.as_ref().err().copied();
         result

@@ -3,13 +3,13 @@
 
 pub use demo_reader::DemoReader;
 pub use demo_stop::DemoStop;
-pub use event::Event;
+pub use event::{Event, EventKind};
 pub use laws::{
     faults_are_the_first, limits_are_known, limits_cut_nothing, lines_are_bounded, lines_read_back,
     memory_is_for_the_map, nothing_after_a_refusal, nothing_after_the_end, nothing_needs_the_map,
     packet_reads_back, packets_have_room, recordings_read_back, small_recording_can_be_written,
 };
-pub use line::Line;
+pub use line::{Line, LineKind};
 pub use line_fault::LineFault;
 pub use line_refusal::LineRefusal;
 pub use rest::{LONGEST_REST, RestBuf};

@@ -6,17 +6,20 @@ ghost use Rattle.arena_map.specs.Words.{map_word};
 ghost use Rattle.arena_map.specs.Reading.{is_word_of_play};
 ghost use Rattle.demo_lines.specs.Lines as lines;
 ghost use Rattle.demo_lines.specs.Words as words;
+ghost use Rattle.packet_read.specs.declared.arrival.Arrival as specs;
+ghost use Rattle.demo_lines.specs.Kinds.{line_of_kind, said_with};
 ghost use Rattle.demo_lines.specs.Said as said;
 ghost use Rattle.demo_lines.specs.Readings.{IsAllowedAt, IsOfMap};
 
 use crate::line_fault::LineFault;
-use crate::packet::packet_of;
+use crate::packet::put_packet;
 use crate::stage::Stage;
 use crate::word::Word;
 use arena_map::{MapLine, MapWord, NO_FORM, read_map_line};
 use edge_io::{LONGEST, cut, field_at, is_integer, natural};
 use packet_read::Arrival;
 
+// Contracts alone speak of it: in the code the packet is lent, and a line is a `LineKind`.
 /// What one line of a recording says. It is a type beside [`Event`](crate::Event), since it has the lines of the map too,
 /// which the reader keeps for itself: it tests them against the map so far, and adds them to it.
 #[derive(Drop)]
@@ -27,6 +30,19 @@ pub enum Line {
     Frame,
     /// A packet reached the server in this frame.
     From(Arrival),
+    /// The recording ends.
+    End,
+}
+
+/// What one line says, where its packet is lent beside it.
+#[derive(Drop)]
+pub enum LineKind {
+    /// A line of the map.
+    OfMap(MapLine),
+    /// A frame begins.
+    Frame,
+    /// The packet that is lent reached the server in this frame.
+    From,
     /// The recording ends.
     End,
 }
@@ -81,8 +97,8 @@ fn map_line_of(stage: Stage, word: MapWord, text: &[u8]) -> Result<MapLine, Line
 }
 
 /// The line of a word alone.
-fn bare(stage: Stage, word: Word, line: Line, rest: &[u8]) -> Result<Line, LineFault>
-    ensures { result ≡ said.bare_said stage word line rest.now }
+fn bare(stage: Stage, word: Word, line: LineKind, rest: &[u8]) -> Result<LineKind, LineFault>
+    ensures { (a : specs.Arrival) → said_with a result ≡ said.bare_said stage word (line_of_kind line a) rest.now }
 {
     if !rest.is_empty() {
         return Err(LineFault::Form);
@@ -114,11 +130,11 @@ fn port_of(text: &[u8]) -> Option<u16>
     Some(natural(text, u64::from(u16::MAX))? as u16)
 }
 
-/// A packet with its port.
-fn from_of(stage: Stage, rest: &[u8]) -> Result<Line, LineFault>
+/// A packet with its port, which it puts into `arrival`.
+fn from_of(stage: Stage, rest: &[u8], arrival: &mut Arrival) -> Result<LineKind, LineFault>
     requires { length rest.now + 4 ≤ LONGEST }
-    ensures value { result ≡ said.from_said stage (words.from_fields rest.now) }
-    ensures placed { IfOk result (IsAllowedAt stage) }
+    ensures value { said_with arrival.new result ≡ said.from_said stage (words.from_fields rest.now) }
+    ensures placed { (a : specs.Arrival) → IfOk (said_with a result) (IsAllowedAt stage) }
 {
     let Some((port, packet)) = from_fields(rest) else {
         return Err(LineFault::Form);
@@ -126,17 +142,19 @@ fn from_of(stage: Stage, rest: &[u8]) -> Result<Line, LineFault>
     if !Word::From.is_allowed(stage) {
         return Err(LineFault::NotAllowed);
     }
-    let port = port_of(port).ok_or(LineFault::Limit)?;
-    let bytes = packet_of(packet).ok_or(LineFault::Packet)?;
-    Ok(Line::From(Arrival { port, bytes }))
+    arrival.port = port_of(port).ok_or(LineFault::Limit)?;
+    if !put_packet(packet, &mut arrival.bytes) {
+        return Err(LineFault::Packet);
+    }
+    Ok(LineKind::From)
 }
 
 /// What a line of at most [`LONGEST`] bytes says at this stage, without its line feed, or the first of its faults that
-/// neither the map nor a count decides.
-pub fn line_at(stage: Stage, raw: &[u8]) -> Result<Line, LineFault>
+/// neither the map nor a count decides. Its packet, where it has one, is put into `arrival`.
+pub fn line_at(stage: Stage, raw: &[u8], arrival: &mut Arrival) -> Result<LineKind, LineFault>
     requires { length raw.now ≤ LONGEST }
-    ensures value { result ≡ said.line_said stage raw.now }
-    ensures placed { IfOk result (IsAllowedAt stage) }
+    ensures value { said_with arrival.new result ≡ said.line_said stage raw.now }
+    ensures placed { (a : specs.Arrival) → IfOk (said_with a result) (IsAllowedAt stage) }
 {
     let text = text_of(raw);
     if !are_printable(text) {
@@ -144,9 +162,9 @@ pub fn line_at(stage: Stage, raw: &[u8]) -> Result<Line, LineFault>
     }
     let (word, rest) = cut(text);
     match Word::read(word).ok_or(LineFault::Word)? {
-        Word::OfMap(word) => Ok(Line::OfMap(map_line_of(stage, word, text)?)),
-        Word::Frame => bare(stage, Word::Frame, Line::Frame, rest),
-        Word::From => from_of(stage, rest),
-        Word::End => bare(stage, Word::End, Line::End, rest),
+        Word::OfMap(word) => Ok(LineKind::OfMap(map_line_of(stage, word, text)?)),
+        Word::Frame => bare(stage, Word::Frame, LineKind::Frame, rest),
+        Word::From => from_of(stage, rest, arrival),
+        Word::End => bare(stage, Word::End, LineKind::End, rest),
     }
 }

@@ -1,24 +1,28 @@
-ghost use Rattle.std.specs.Prelude.{◌≡◌, ◌+◌, ◌*◌, ◌<◌, length};
+ghost use Rattle.std.specs.Prelude.{◌≡◌, ◌+◌, ◌*◌, ◌<◌, Some, None, length};
+ghost use Rattle.std.specs.Bool.{OnTrue, OnFalse};
 ghost use Rattle.demo_lines.specs.Packets.{packet_bytes};
 
 use packet_read::{ArrivalBytes, MOST_BYTES};
 
-/// The packet that hexadecimal digits of either case spell, two a byte, or `-` for no byte. `None` exactly where the
-/// text spells none.
-pub fn packet_of(text: &[u8]) -> Option<ArrivalBytes>
+/// Puts the packet that hexadecimal digits of either case spell, two a byte, or `-` for no byte, in place of what
+/// `bytes` has. It is false exactly where the text spells none.
+pub fn put_packet(text: &[u8], bytes: &mut ArrivalBytes) -> bool
     requires { length text.now < 2 * MOST_BYTES + 2 }
-    ensures { result ≡ packet_bytes text.now }
+    ensures put { OnTrue result (packet_bytes text.now ≡ Some bytes.new) }
+    ensures none { OnFalse result (packet_bytes text.now ≡ None) }
 {
+    *bytes = ArrivalBytes::new();
     if text == b"-".as_slice() {
-        return Some(ArrivalBytes::new());
+        return true;
     }
     if text.is_empty() {
-        return None;
+        return false;
     }
     let len = text.len() / 2;
-    let mut bytes = [0; MOST_BYTES];
-    hex::decode_to_slice(text, &mut bytes[..len]).ok()?;
-    let mut packet = ArrivalBytes::new();
-    packet.extend(&bytes[..len]);
-    Some(packet)
+    let mut decoded = [0; MOST_BYTES];
+    if hex::decode_to_slice(text, &mut decoded[..len]).is_err() {
+        return false;
+    }
+    bytes.extend(&decoded[..len]);
+    true
 }

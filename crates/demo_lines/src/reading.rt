@@ -1,5 +1,6 @@
 ghost use Rattle.std.specs.Prelude.{◌≡◌, ◌↔◌, ◌<◌, ◌≤◌, ◌^◌, true, false, Some, None, Ok, Err, IsSome, IfOk, OnOk, OnErr};
 ghost use Rattle.std.specs.Prelude.{option_to_list};
+ghost use Rattle.std.specs.Result.{result_ok};
 ghost use Rattle.arena_map.specs.declared.map_fault.MapFault.{MapFault};
 ghost use Rattle.arena_map.specs.declared.map_fault.MapRefusal.TheVariants as refusal;
 ghost use Rattle.arena_map.specs.MapLines as map_lines;
@@ -7,13 +8,15 @@ ghost use Rattle.packet_read.specs.declared.arrival.Arrival.{Arrival};
 ghost use Rattle.arena_map.specs.MapLines.{IsWithinLimits};
 ghost use Rattle.demo_lines.specs.Known as known;
 ghost use Rattle.demo_lines.specs.Faults as faults;
+ghost use Rattle.demo_lines.specs.declared.line.Line.{Line};
+ghost use Rattle.demo_lines.specs.Kinds.{event_if, said_with};
 ghost use Rattle.demo_lines.specs.Recording as recording;
 ghost use Rattle.demo_lines.specs.Said as said;
 ghost use Rattle.demo_lines.specs.Readings.{IsReading, IsAllowedAt};
 ghost use Rattle.demo_lines.specs.Reads.{IsQuiet};
 
-use crate::event::Event;
-use crate::line::Line;
+use crate::event::EventKind;
+use crate::line::LineKind;
 use crate::line_fault::LineFault;
 use crate::stage::Stage;
 use arena_map::{ArenaMap, MOST_FRAMES, MapFault, MapLine, MapRefusal};
@@ -194,33 +197,37 @@ impl Reading {
     }
 
     /// What is known after a line that says this, or has this fault.
-    fn go_on(&mut self, alloc: Global, line: &Result<Line, LineFault>) -> Result<(), AllocError>
+    fn go_on(&mut self, alloc: Global, line: &Result<LineKind, LineFault>) -> Result<(), AllocError>
         requires reading { IsReading self.old }
         requires going { known.is_over self.old.stage ≡ false }
-        requires placed { IfOk line.now (IsAllowedAt self.old.stage) }
-        ensures next { OnOk result (self.new ≡ said.after_said self.old line.now) }
+        requires placed { (a : Arrival) → IfOk (said_with a line.now) (IsAllowedAt self.old.stage) }
+        ensures next { (a : Arrival) → OnOk result (self.new ≡ said.after_said self.old (said_with a line.now)) }
         ensures unchanged { OnErr result (self.new ≡ self.old) }
-        ensures quiet { OnErr result (IsQuiet self.old line.now) }
+        ensures quiet { (a : Arrival) → OnErr result (IsQuiet self.old (said_with a line.now)) }
     {
         match line {
             Err(why) => self.go_to(Stage::Refused(*why)),
-            Ok(Line::OfMap(line)) => self.take_map_line(alloc, line)?,
-            Ok(Line::Frame) => self.take_frame(),
-            Ok(Line::From(_)) => self.take_arrival(),
-            Ok(Line::End) => self.go_to(Stage::Ended),
+            Ok(LineKind::OfMap(line)) => self.take_map_line(alloc, line)?,
+            Ok(LineKind::Frame) => self.take_frame(),
+            Ok(LineKind::From) => self.take_arrival(),
+            Ok(LineKind::End) => self.go_to(Stage::Ended),
         }
         Ok(())
     }
 
-    /// Takes one more line, which says this, or has this fault. Nothing changes where memory is refused, which comes
-    /// only at a line of the map that would be taken.
-    pub fn take(&mut self, alloc: Global, line: &Result<Line, LineFault>) -> Result<(), AllocError>
+    /// Takes one more line, which says this, or has this fault, whatever its packet is. Nothing changes where memory is
+    /// refused, which comes only at a line of the map that would be taken.
+    pub fn take(
+        &mut self,
+        alloc: Global,
+        line: &Result<LineKind, LineFault>,
+    ) -> Result<(), AllocError>
         requires reading { IsReading self.old }
         requires going { known.is_over self.old.stage ≡ false }
-        requires placed { IfOk line.now (IsAllowedAt self.old.stage) }
-        ensures next { OnOk result (self.new ≡ said.after_said self.old line.now) }
+        requires placed { (a : Arrival) → IfOk (said_with a line.now) (IsAllowedAt self.old.stage) }
+        ensures next { (a : Arrival) → OnOk result (self.new ≡ said.after_said self.old (said_with a line.now)) }
         ensures unchanged { OnErr result (self.new ≡ self.old) }
-        ensures quiet { OnErr result (IsQuiet self.old line.now) }
+        ensures quiet { (a : Arrival) → OnErr result (IsQuiet self.old (said_with a line.now)) }
         ensures holds { IsReading self.new }
         ensures fewer { OnOk result (recording.lines_left self.new < recording.lines_left self.old) }
     {
@@ -228,14 +235,15 @@ impl Reading {
     }
 }
 
-/// The event of an accepted line.
-pub fn event_of(line: Option<Line>) -> Option<Event>
-    ensures { option_to_list result ≡ recording.event_of line }
+/// The event of a line, where it has no fault.
+pub fn event_of(line: &Result<LineKind, LineFault>) -> Option<EventKind>
+    ensures { (a : Arrival) →
+        option_to_list (event_if result a) ≡ recording.event_of (result_ok (said_with a line.now)) }
 {
-    match line? {
-        Line::Frame => Some(Event::Frame),
-        Line::From(arrival) => Some(Event::From(arrival)),
-        Line::End => Some(Event::End),
-        Line::OfMap(_) => None,
+    match line {
+        Ok(LineKind::Frame) => Some(EventKind::Frame),
+        Ok(LineKind::From) => Some(EventKind::From),
+        Ok(LineKind::End) => Some(EventKind::End),
+        Ok(LineKind::OfMap(_)) | Err(_) => None,
     }
 }

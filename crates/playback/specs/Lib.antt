@@ -1,5 +1,6 @@
 -- The definitions of a server over events.
 pub use Rattle.demo_lines.specs.Bytes
+pub use Rattle.demo_lines.specs.Kinds
 pub use Rattle.move_journal.specs.Logs
 pub use Rattle.move_phase.specs.Serving
 pub use Rattle.plain_server.specs.RecordsById

@@ -3,7 +3,7 @@ ghost use Rattle.packet_read.specs.Orders.{in_order, AreEachOnce};
 
 use crate::host::Host;
 use arena_actions::MapAction;
-use demo_lines::Event;
+use demo_lines::{Event, EventKind};
 use frame_phases::{FrameOut, Server, run_frame};
 use move_journal::Journal;
 use move_phase::Runners;
@@ -64,10 +64,23 @@ fn move_in_order(
     Ok(())
 }
 
+/// A copy of a packet: of its bytes, and not of its room.
+fn copy_of(arrival: &Arrival) -> Arrival
+    ensures { result ≡ arrival.now }
+{
+    let mut copy = Arrival {
+        port: arrival.port,
+        bytes: ArrivalBytes::new(),
+    };
+    copy.bytes.extend(arrival.bytes.as_slice());
+    copy
+}
+
 impl<'a> Playback<'a> {
     ghost use Rattle.std.specs.Prelude.{◌≡◌, Some, None, length, option_map, IfSome, IsSomeAnd, IfOk, OnOk, OnErr};
     ghost use Rattle.arena_map.specs.Maps.{IsMap};
     ghost use Rattle.arena_actions.specs.MapActions.{map_in, IsOfItsMap};
+    ghost use Rattle.demo_lines.specs.Kinds.{event_of_kind};
     ghost use Rattle.frame_phases.specs.Scores.{score_in};
     ghost use Rattle.playback.specs.Playbacks.{entries_if, ArePrintable, new_course};
     ghost use Rattle.packet_read.specs.Orders.{in_order, AreEachOnce};
@@ -202,9 +215,10 @@ impl<'a> Playback<'a> {
         Ok(journal)
     }
 
-    /// Keeps a packet of the frame that is open.
-    fn keep(&mut self, arrival: Arrival) -> Result<Option<Journal>, AllocError>
-        ensures next { IfOk result (λ journal. KeepsPacket self.old.course self.new.course arrival (entries_if journal)) }
+    /// Keeps a copy of a packet of the frame that is open.
+    fn keep(&mut self, arrival: &Arrival) -> Result<Option<Journal>, AllocError>
+        ensures next { IfOk result (λ journal.
+            KeepsPacket self.old.course self.new.course arrival.now (entries_if journal)) }
         ensures given { IfOk result (λ journal.
             IsGivenIf self.old.course.server self.old.course.opened (entries_if journal) self.new.out) }
         ensures packets { IfOk result (λ journal.
@@ -212,7 +226,7 @@ impl<'a> Playback<'a> {
         ensures same { OnErr result (self.new.course ≡ self.old.course) }
     {
         if self.is_open {
-            self.arrivals.push(arrival)?;
+            self.arrivals.push(copy_of(arrival))?;
         }
         Ok(None)
     }
@@ -236,10 +250,33 @@ impl<'a> Playback<'a> {
             ArePacketsIf self.old.course.opened (entries_if journal) self.new.closed) }
         ensures same { OnErr result (self.new.course ≡ self.old.course) }
     {
-        match event {
-            Event::Frame => self.open(host, runners),
-            Event::From(arrival) => self.keep(arrival),
-            Event::End => self.close(host, runners),
+        let (kind, arrival) = event.into_parts();
+        self.take_kind(host, runners, kind, &arrival)
+    }
+
+    /// Takes an event of this kind, as [`take`](Self::take) does, whose packet, where it has one, is this one: so a packet
+    /// isn't moved. It is copied where a frame is open.
+    pub fn take_kind<R: Threads + Wait + Sync, G: Gate>(
+        &mut self,
+        host: &Host<R>,
+        runners: &mut Runners<'a, G>,
+        kind: EventKind,
+        arrival: &Arrival,
+    ) -> Result<Option<Journal>, AllocError>
+        requires { IsReady self.old.course (event_of_kind kind arrival.now) }
+        ensures next { IfOk result (λ journal.
+            GoesOn host.now.workers self.old.course self.new.course (event_of_kind kind arrival.now)
+            (entries_if journal)) }
+        ensures given { IfOk result (λ journal.
+            IsGivenIf self.old.course.server self.old.course.opened (entries_if journal) self.new.out) }
+        ensures packets { IfOk result (λ journal.
+            ArePacketsIf self.old.course.opened (entries_if journal) self.new.closed) }
+        ensures same { OnErr result (self.new.course ≡ self.old.course) }
+    {
+        match kind {
+            EventKind::Frame => self.open(host, runners),
+            EventKind::From => self.keep(arrival),
+            EventKind::End => self.close(host, runners),
         }
     }
 }

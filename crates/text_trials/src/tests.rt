@@ -1,4 +1,5 @@
 mod generated;
 mod lines;
+mod playbacks;
 mod recordings;
 mod totals;

@@ -4,8 +4,9 @@ ghost use Rattle.demo_lines.specs.Readings.{IsReading};
 
 use arena_geo::{Aabb, Vec3};
 use arena_map::ArenaMap;
-use demo_lines::{DemoReader, DemoStop, Event};
+use demo_lines::{DemoReader, DemoStop, Event, EventKind};
 use edge_io::MemSource;
+use packet_read::{Arrival, ArrivalBytes};
 use std::alloc::Global;
 use std::process::Abort;
 use std::test::Fail;
@@ -50,6 +51,21 @@ fn is_answer(answer: Result<Event, DemoStop>, want: Answer<'_>) -> bool {
     }
 }
 
+fn is_answer_into(
+    answer: Result<EventKind, DemoStop>,
+    arrival: &Arrival,
+    want: Answer<'_>,
+) -> bool {
+    match (answer, want) {
+        (Ok(EventKind::Frame), Frame) | (Ok(EventKind::End), End) => true,
+        (Ok(EventKind::From), From(port, bytes)) => {
+            arrival.port == port && arrival.bytes.as_slice() == bytes
+        }
+        (Err(stop), Stop(want)) => stop == want,
+        _ => false,
+    }
+}
+
 fn point((x, y, z): (i32, i32, i32)) -> Vec3 {
     Vec3 { x, y, z }
 }
@@ -69,6 +85,24 @@ fn expect(
     for (place, answer) in want.iter().enumerate() {
         let given = demo.next(alloc, source);
         assert!(rt; is_answer(given, *answer), "answer {place}");
+    }
+}
+
+/// Reads `source` to these answers, each packet into one that is lent to all calls.
+fn expect_into(
+    rt: &impl Abort,
+    alloc: Global,
+    demo: &mut DemoReader,
+    source: &mut MemSource<'_>,
+    want: &[Answer<'_>],
+) {
+    let mut arrival = Arrival {
+        port: 1,
+        bytes: ArrivalBytes::new(),
+    };
+    for (place, answer) in want.iter().enumerate() {
+        let given = demo.next_into(alloc, source, &mut arrival);
+        assert!(rt; is_answer_into(given, &arrival, *answer), "answer {place}");
     }
 }
 
@@ -193,6 +227,29 @@ fn recordings_give_their_events_to_the_end(rt: HostRuntime) -> Result<(), Fail> 
     for (front, rest, want) in rows {
         expect_recording(&rt, rt.alloc(), front, rest, want, End)?;
     }
+    Ok(())
+}
+
+#[test]
+fn packets_are_put_into_one_that_is_lent(rt: HostRuntime) -> Result<(), Fail> {
+    let lines = [
+        ARENA,
+        b"spawn 0 0 6144\nblock 0 0 60000 1 1 65536\nframe\nfrom 7 0102\nfrom 8 -\n",
+        b"frame\nfrom 65535 0aFf03\nfrom 9 5\nfrom 9 05\nend\n",
+    ];
+    let want = [
+        Frame,
+        From(7, &[1, 2]),
+        From(8, &[]),
+        Frame,
+        From(65_535, &[10, 255, 3]),
+        refused(9, 8, 0),
+        refused(9, 8, 0),
+    ];
+    let text = text_of(rt.alloc(), &lines)?;
+    let mut demo = DemoReader::new(rt.alloc())?;
+    let mut source = MemSource::new(text.as_slice(), 7, &[]);
+    expect_into(&rt, rt.alloc(), &mut demo, &mut source, &want);
     Ok(())
 }
 

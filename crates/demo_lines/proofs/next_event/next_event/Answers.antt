@@ -1,6 +1,7 @@
 use Rattle.std.proofs.Common.{◌≡◌, true, false, inl, inr, Err, option_to_list, refl, sym, ap, ◌∙◌, arith}
 use Rattle.std.proofs.lemmas.Result.{err_from_is_err_and}
 use Rattle.edge_io.proofs.ReadingAhead.{HasNotReadAhead-trans}
+use Rattle.demo_lines.specs.Kinds.{event_of_kind, event_if}
 use Rattle.demo_lines.specs.Known.{is_map_whole}
 use Rattle.demo_lines.specs.Outcomes.{reader_without_stop, reader_after, IsRefusedBy, WantsMemory}
 use Rattle.demo_lines.proofs.MapGiven.{so_far-line, keeps_map}
@@ -11,17 +12,17 @@ use Rattle.demo_lines.proofs.next_event.next_event.Goals as goal
 
 -- ---- a line
 
-pub returns-in_err-event-in-Ok-Whole-clause-stop : goal.returns-in_err-event-in-Ok-Whole-clause-stop
-returns-in_err-event-in-Ok-Whole-clause-stop g c =
+pub returns-in_err-kind-in-Ok-Whole-clause-stop : goal.returns-in_err-kind-in-Ok-Whole-clause-stop
+returns-in_err-kind-in-Ok-Whole-clause-stop g c =
     let inv = c.loop-reading.invariant in
     let gives = rw c.in-Ok-Whole.field-0-is at c.in-Ok-Whole.ensures.whole in
     let line = rw (← c.as_slice.ensures.value) at gives in
     let needed = rw c.in-Ok-Whole.field-0-is at c.in-Ok-Whole.ensures.needed in
     let before_end = rw c.in-Ok-Whole.field-0-is at c.in-Ok-Whole.ensures.before_end in
     let same = c.in-Ok-Whole.ensures.faults.uncounted ∙ inv.uncounted in
-    let stops = c.in_err-event-in-Ok-Whole.ensures in
+    let stops = c.in_err-kind-in-Ok-Whole.ensures in
     let old = reader_without_stop c.args.lines.now c.args.reading.now c.args.is_cut.now in
-    let new = reader_after c.next_line.new.self c.take_line.new.reading c.loop-reading.is_cut (Err c.in_err-event-in-Ok-Whole.field-0.0) in
+    let new = reader_after c.next_line.new.self c.take_line.new.reading c.loop-reading.is_cut (Err c.in_err-kind-in-Ok-Whole.field-0.0) in
     let p = err_from_is_err_and c.from_residual.result c.from_residual.ensures.1 in
     rw (p.1, p.2)
     (record {
@@ -55,18 +56,19 @@ returns-in-Some-clause-event g c =
     let line = rw (← c.as_slice.ensures.value) at gives in
     let needed = rw c.in-Ok-Whole.field-0-is at c.in-Ok-Whole.ensures.needed in
     let before_end = rw c.in-Ok-Whole.field-0-is at c.in-Ok-Whole.ensures.before_end in
-    let taken = c.in_ok-event-in-Ok-Whole.ensures in
-    let given = sym taken.event ∙ ap option_to_list c.in-Some.is in
-    let stage = stage_after-line c.loop-reading.reading c.take_line.new.reading c.as_slice.result.now c.in-Some.event taken.next given in
+    let taken = c.in_ok-kind-in-Ok-Whole.ensures in
+    let event = event_of_kind c.in-Some.kind c.take_line.new.arrival in
+    let given = sym taken.event ∙ ap (λ kind. option_to_list (event_if kind c.take_line.new.arrival)) c.in-Some.is in
+    let stage = stage_after-line c.loop-reading.reading c.take_line.new.reading c.as_slice.result.now event taken.next given in
     record {
-      event = λ open'. walk_event _ c.loop-reading.reading _ _ _ _ c.as_slice.result.now c.in-Some.event inv.walks line taken.next given;
+      event = λ open'. walk_event _ c.loop-reading.reading _ _ _ _ c.as_slice.result.now event inv.walks line taken.next given;
       stage = stage;
       fewer = λ open'. omega (arith, taken.fewer, inv.walks.fewer);
       needed = λ open'. inl (HasNotReadAhead-trans g.S.Source.last _ _ _ _ _ _ inv.needed needed, before_end ∙ inv.before_end);
       cut = λ open'. inl (inv.cut, before_end ∙ inv.before_end);
       map = keeps_map _ c.take_line.new.reading
           (so_far-line _ c.loop-reading.reading c.take_line.new.reading c.as_slice.result.now inv.map inv.walks.holds taken.next taken.goes_on)
-          (ap is_map_whole stage ∙ whole_after c.in-Some.event);
+          (ap is_map_whole stage ∙ whole_after event);
       uncounted = c.in-Ok-Whole.ensures.faults.uncounted ∙ inv.uncounted;
       keeps = λ sure. c.next_line.ensures.keeps (inv.keeps sure);
       ok = refl;
@@ -80,12 +82,13 @@ loop-reading-preserved g c =
     let line = rw (← c.as_slice.ensures.value) at gives in
     let needed = rw c.in-Ok-Whole.field-0-is at c.in-Ok-Whole.ensures.needed in
     let before_end = rw c.in-Ok-Whole.field-0-is at c.in-Ok-Whole.ensures.before_end in
-    let given = sym c.in_ok-event-in-Ok-Whole.ensures.event ∙ ap option_to_list c.in_default.is in
-    let going = goes_on-quiet c.loop-reading.reading c.take_line.new.reading c.as_slice.result.now inv.walks.going c.in_ok-event-in-Ok-Whole.ensures.next given c.in_ok-event-in-Ok-Whole.ensures.goes_on in
+    let given = sym c.in_ok-kind-in-Ok-Whole.ensures.event
+    ∙ ap (λ kind. option_to_list (event_if kind c.take_line.new.arrival)) c.in_default.is in
+    let going = goes_on-quiet c.loop-reading.reading c.take_line.new.reading c.as_slice.result.now inv.walks.going c.in_ok-kind-in-Ok-Whole.ensures.next given c.in_ok-kind-in-Ok-Whole.ensures.goes_on in
     record {
-      map = so_far-line _ c.loop-reading.reading c.take_line.new.reading c.as_slice.result.now inv.map inv.walks.holds c.in_ok-event-in-Ok-Whole.ensures.next
-          c.in_ok-event-in-Ok-Whole.ensures.goes_on;
-      walks = walk_on _ c.loop-reading.reading _ _ _ _ c.as_slice.result.now inv.walks line c.in_ok-event-in-Ok-Whole.ensures.next given c.take_line.ensures.holds going c.in_ok-event-in-Ok-Whole.ensures.fewer;
+      map = so_far-line _ c.loop-reading.reading c.take_line.new.reading c.as_slice.result.now inv.map inv.walks.holds c.in_ok-kind-in-Ok-Whole.ensures.next
+          c.in_ok-kind-in-Ok-Whole.ensures.goes_on;
+      walks = walk_on _ c.loop-reading.reading _ _ _ _ c.as_slice.result.now inv.walks line c.in_ok-kind-in-Ok-Whole.ensures.next given c.take_line.ensures.holds going c.in_ok-kind-in-Ok-Whole.ensures.fewer;
       needed = HasNotReadAhead-trans g.S.Source.last _ _ _ _ _ _ inv.needed needed;
       before_end = before_end ∙ inv.before_end;
       cut = inv.cut;
@@ -126,8 +129,8 @@ returns-in-Ok-Ended-clause-event g c =
     let last = rw (← c.as_slice-in-Ok-Ended.ensures.value) at gives in
     let at_end = rw c.in-Ok-Ended.field-0-is at c.in-Ok-Ended.ensures.at_end in
     let line = c.as_slice-in-Ok-Ended.result.now in
-    let event = c.in_ok-event-in-Ok-Ended.event in
-    let taken = c.in_ok-event-in-Ok-Ended.ensures in
+    let event = event_of_kind c.in_ok-kind-in-Ok-Ended.kind c.take_last.new.arrival in
+    let taken = c.in_ok-kind-in-Ok-Ended.ensures in
     let is_end = end_event c.loop-reading.reading line event taken.end taken.event in
     let stage = stage_after-line c.loop-reading.reading c.take_last.new.reading line event taken.next taken.event in
     record {
@@ -145,18 +148,18 @@ returns-in-Ok-Ended-clause-event g c =
       holds = c.take_last.ensures.holds;
     }
 
-pub returns-in_err-event-in-Ok-Ended-clause-stop : goal.returns-in_err-event-in-Ok-Ended-clause-stop
-returns-in_err-event-in-Ok-Ended-clause-stop g c =
+pub returns-in_err-kind-in-Ok-Ended-clause-stop : goal.returns-in_err-kind-in-Ok-Ended-clause-stop
+returns-in_err-kind-in-Ok-Ended-clause-stop g c =
     let inv = c.loop-reading.invariant in
     let gives = rw c.in-Ok-Ended.field-0-is at c.in-Ok-Ended.ensures.ended in
     let last = rw (← c.as_slice-in-Ok-Ended.ensures.value) at gives in
     let at_end = rw c.in-Ok-Ended.field-0-is at c.in-Ok-Ended.ensures.at_end in
     let line = c.as_slice-in-Ok-Ended.result.now in
     let same = c.in-Ok-Ended.ensures.faults.uncounted ∙ inv.uncounted in
-    let stops = c.in_err-event-in-Ok-Ended.ensures in
+    let stops = c.in_err-kind-in-Ok-Ended.ensures in
     let old = reader_without_stop c.args.lines.now c.args.reading.now c.args.is_cut.now in
-    let new = reader_after c.next_line.new.self c.take_last.new.reading c.loop-reading.is_cut (Err c.in_err-event-in-Ok-Ended.field-0.0) in
-    let p = err_from_is_err_and c.from_residual-in_err-event-in-Ok-Ended.result c.from_residual-in_err-event-in-Ok-Ended.ensures.1 in
+    let new = reader_after c.next_line.new.self c.take_last.new.reading c.loop-reading.is_cut (Err c.in_err-kind-in-Ok-Ended.field-0.0) in
+    let p = err_from_is_err_and c.from_residual-in_err-kind-in-Ok-Ended.result c.from_residual-in_err-kind-in-Ok-Ended.ensures.1 in
     rw (p.1, p.2)
     (record {
       refused = on_refused _ _ (IsRefusedBy g.S.Source old new c.args.source.now c.next_line.new.source)
