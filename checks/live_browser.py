@@ -17,6 +17,7 @@ import arena
 from common import EXAMPLES, run
 
 PREDICTED_MOVES = 600
+STALLS = 20
 # Two players on a line, with ammunition between them.
 RANGE = """arena -65536 -65536 0 65536 65536 49152
 shots
@@ -58,6 +59,7 @@ def plays(page, other, want):
     join(page)
     slot = int(text_of(page, "slot"))
     walk(page, want)
+    stalls(page, want)
     wait_until(lambda: f"player {slot}" in text_of(other, "players"), "another page lists the player")
     watched_place_is_seen(page, other, slot, want)
     join(other)
@@ -148,6 +150,20 @@ def walk(page, want):
         time.sleep(0.02)
     ActionChains(page).key_up(Keys.SPACE).perform()
     want(max(heights) - min(heights) > 10, f"a jump lifts the player by {max(heights) - min(heights)} units")
+
+
+def stalls(page, want):
+    """A page that is held up for less than a quarter of a second makes up for it in few packets.
+
+    On a busy machine a frame of the front may be late too, and take more of them than it should.
+    """
+    before = int(text_of(page, "refusals"))
+    for _ in range(STALLS):
+        page.execute_script("const begun = performance.now(); while (performance.now() - begun < 230);")
+        time.sleep(0.15)
+    time.sleep(1.5)
+    more = int(text_of(page, "refusals")) - before
+    want(more <= STALLS // 4, f"{more} packets are refused after {STALLS} stalls")
 
 
 def held(page, key, seconds):

@@ -79,6 +79,7 @@ class SnapshotFault(ValueError):
 # Files.
 
 GZIP = b"\x1f\x8b"
+BLOCK = 1 << 20
 MARKS = {
     b"\xef\xbb\xbf": "begins with a UTF-8 byte order mark; write it without one, as ASCII",
     b"\xff\xfe": "is UTF-16, and should be ASCII (`iconv -f UTF-16 -t ASCII`)",
@@ -91,6 +92,8 @@ def why_not_ascii(front: bytes) -> Optional[str]:
     for mark, why in MARKS.items():
         if front.startswith(mark):
             return why
+    if len(front) >= 4 and not any(front):
+        return "begins with zero bytes, so it is no text"
     if len(front) >= 4 and (front[1::2].count(0) == len(front) // 2 or front[::2].count(0) == (len(front) + 1) // 2):
         return MARKS[b"\xff\xfe"]
     return None
@@ -140,12 +143,24 @@ def opened(path: str, any_encoding: bool = False) -> Iterator[BinaryIO]:
 
 
 def read_bytes(path: str, any_encoding: bool = False, most: int = -1) -> bytes:
-    """All bytes of a file, as `opened` gives them, or so many of them at most."""
+    """All bytes of a file, as `opened` gives them, or so many of them at most.
+
+    They are read by blocks, so that a signal is heard between two of a file without an end.
+    """
+    blocks, left = [], most
     with opened(path, any_encoding) as file:
         try:
-            return file.read(most)
+            while left != 0 and (block := file.read(BLOCK if left < 0 else min(BLOCK, left))):
+                blocks.append(block)
+                left -= len(block) if left > 0 else 0
         except _READING as error:
             raise FormatError(f"{path} {_cause(error)}") from None
+    return b"".join(blocks)
+
+
+def _name(file: BinaryIO) -> str:
+    name = getattr(file, "name", None)
+    return name if isinstance(name, str) and name != "<stdin>" else "the file"
 
 
 def parts(file: BinaryIO, most: int) -> Iterator[bytes]:
@@ -154,7 +169,7 @@ def parts(file: BinaryIO, most: int) -> Iterator[bytes]:
         try:
             part = file.readline(most)
         except _READING as error:
-            raise FormatError(f"the file {_cause(error)}") from None
+            raise FormatError(f"{_name(file)} {_cause(error)}") from None
         if not part:
             return
         yield part

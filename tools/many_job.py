@@ -99,9 +99,9 @@ def first_line(data):
 
 def verdict(said, error, status):
     """The end that `check` or `audit` comes to, with its counts or its line."""
-    if status == 0:
-        counts = RIGHT.fullmatch(said)
-        return {"end": "right", **({"frames": int(counts[1]), "moves": int(counts[2])} if counts else {})}
+    counts = RIGHT.fullmatch(said)
+    if status == 0 and counts:
+        return {"end": "right", "frames": int(counts[1]), "moves": int(counts[2])}
     refused = REFUSED.fullmatch(error)
     if status == 1 and refused:
         is_long = int(refused[2]) == TOO_MANY

@@ -130,13 +130,15 @@ def no_words(words):
 
 
 def folders(words):
-    return next((f"there is no folder {word}" for word in words if not os.path.isdir(word)), None)
+    return next((f"there is no folder {word or 'without a name'}" for word in words if not os.path.isdir(word)), None)
 
 
 def unreadable(path):
     """Why a file can't be read, before it is opened: None for standard input, `-`, and where nothing is known."""
     if path == "-":
         return None
+    if not path:
+        return "a file's name is empty"
     if os.path.islink(path) and not os.path.exists(path):
         return f"{path} is a link to {os.readlink(path)}, which isn't there"
     if os.path.isdir(path):

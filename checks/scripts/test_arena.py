@@ -240,6 +240,13 @@ class Files(unittest.TestCase):
         for encoding, said in (("utf-16", "UTF-16"), ("utf-16-le", "UTF-16"), ("utf-16-be", "UTF-16"), ("utf-8-sig", "UTF-8")):
             with self.assertRaisesRegex(arena.FormatError, said):
                 arena.read_bytes(self.written(text.encode(encoding)))
+        with self.assertRaisesRegex(arena.FormatError, "begins with zero bytes"):
+            arena.read_bytes(self.written(bytes(100)))
+
+    def test_long_files_are_read_whole_or_as_far_as_is_asked(self):
+        data = b"0123456789abcdef" * (3 * arena.BLOCK // 16) + b"end"
+        for most in (-1, 0, 1, arena.BLOCK, arena.BLOCK + 1, len(data), len(data) + 1):
+            self.assertEqual(arena.read_bytes(self.written(data), most=most), data if most < 0 else data[:most])
 
     def test_what_is_no_file(self):
         with self.assertRaisesRegex(arena.FormatError, "is a folder"):

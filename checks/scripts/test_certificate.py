@@ -37,6 +37,9 @@ class Certificate(Calls):
     def test_what_is_no_way(self):
         for data in (content("duel.demo"), content("duel.out"), b"", content("ways-to-10.out") + b"more\n"):
             self.call("certificate", self.path("way", data), status=1)
+        zeros = self.path("zeros", bytes(100))
+        why = f"certificate: {zeros} begins with zero bytes, so it is no text\n".encode()
+        self.assertEqual(self.call("certificate", zeros, status=1)[1], why)
         for words in ([], [self.path("none")], [self.folder]):
             self.call("certificate", *words, status=2)
         error, status = self.into_closed_pipe("certificate", example("ways-to-10.out"))

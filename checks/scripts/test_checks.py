@@ -1,12 +1,13 @@
 """What the checks say where a user gives them nothing to do, or what they need isn't there."""
 import os
+import shutil
 import signal
 import subprocess
 import sys
 import unittest
 
-from calls import SECONDS, Calls
-from common import CHECKS, PROGRAM
+from calls import SECONDS, Calls, content
+from common import CHECKS, PROGRAM, TOOLS
 
 # A script that has a folder of its own while it waits.
 HELD = """
@@ -71,6 +72,31 @@ class Checks(Calls):
     def test_numbers_without_end(self):
         for name, words in (("soak", ["\u00b2"]), ("no_memory", ["9" * 5000]), ("transcripts", ["9" * 5000])):
             self.assertEqual(self.check(name, *words)[1], 2)
+
+    def test_a_program_that_writes_nothing(self):
+        recordings = self.path("recordings")
+        os.mkdir(recordings)
+        with open(os.path.join(recordings, "a b.demo"), "wb") as file:
+            file.write(content("one-join.demo"))
+        lists = (["audits", "1"], ["feeders", recordings], ["from_quake"], ["transcripts", "1"], ["workers", recordings])
+        for name, *words in lists:
+            self.assertEqual(self.check(name, *words, ARENA_CLI=shutil.which("true"))[1], 1, name)
+
+    def test_help_and_wrong_words(self):
+        """Each script says what it does, and where that can't be written or a word is wrong gives a sentence."""
+        scripts = [os.path.join(folder, name) for folder in (CHECKS, TOOLS) for name in sorted(os.listdir(folder))]
+        scripts = [path for path in scripts if os.path.isfile(path) and os.access(path, os.X_OK)]
+        for path in [*scripts, os.path.join(CHECKS, "scripts", "run")]:
+            name = os.path.basename(path).encode()
+            for word, to, status in (("--help", os.devnull, 0), ("--help", "/dev/full", None), ("--sing", "/dev/full", 2)):
+                with open(to, "wb") as out:
+                    done = subprocess.run([path, word], stdin=subprocess.DEVNULL, stdout=out, stderr=subprocess.PIPE, timeout=SECONDS)
+                self.assertNotIn(b"Traceback", done.stderr, path)
+                if status is not None:
+                    self.assertEqual(done.returncode, status, (path, word))
+                if status != 0:
+                    self.assertNotEqual(done.returncode, 0, (path, word))
+                    self.assertIn(name + b": ", done.stderr, (path, word))
 
     def test_no_program(self):
         for name, words in (("play", []), ("play", ["--built"]), ("workers", []), ("transcripts", []), ("soak", ["1", "1"])):

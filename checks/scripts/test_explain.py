@@ -43,7 +43,9 @@ class Explain(Calls):
         for path in (self.path("none"), self.folder, dangling):
             self.call("explain", path, status=2)
         self.call("explain", self.path("two.demo", content("duel.demo").decode().encode("utf-16")), status=1)
-        self.call("explain", self.path("cut.gz", gzip.compress(content("duel.demo"))[:100]), status=1)
+        cut = self.path("a cut.gz", gzip.compress(content("duel.demo"))[:100])
+        self.assertIn(f"explain: {cut} can't be unpacked: ".encode(), self.call("explain", example("one-join.demo"), cut, status=1)[1])
+        self.assertTrue(self.call("explain", "", status=2)[1].startswith(b"explain: a file's name is empty\n"))
         self.call("explain", self.path("\x1bname\n"), status=2)
 
     def test_a_closed_pipe_and_a_full_device(self):

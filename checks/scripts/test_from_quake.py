@@ -30,6 +30,7 @@ class FromQuake(Calls):
         for words in (
             [], ["a", "b"], [room, "--depth", "6"], [room, "--limit", "0"], [room, "--lim", "5"], [self.path("none")],
             [self.folder], [self.path("link")], [room + ":maps/x.bsp.none", "--limit", "x"],
+            [room, "--about", ""],
         ):
             self.call("from_quake", *words, status=2)
         for words in ([room + ":x.bsp"], [room, "--about", "/none/x"], [room, "--about", self.folder], ["-"]):
@@ -63,6 +64,8 @@ class FromQuake(Calls):
         packed = self.call("from_quake", self.path("a :b.pk3") + ":maps/room.map", status=0)
         self.assertEqual(plain[0], packed[0])
         self.assertIn(b"\\x1b[31m room.map: ", plain[1])
+        error = self.call("from_quake", self.path("a :b.pk3"), status=1)[1]
+        self.assertTrue(error.endswith(b"it is a package: a map of it is named after a colon, as in PACKAGE.pk3:maps/NAME.bsp\n"))
         self.assertIn(b"has no x\\x1by\n", self.call("from_quake", self.path("a :b.pk3") + ":x\x1by", status=1)[1])
 
     def test_no_control_byte_is_written(self):

@@ -125,6 +125,13 @@ class Many(Calls):
         self.assertEqual(self.ends(found), {"a.demo": "right"})
         self.call("many", self.recordings, status=2, env={"ARENA_CLI": "./none"}, cwd=self.folder)
 
+    def test_a_program_that_judges_nothing(self):
+        """Status 0 without the line `right ..` isn't taken for a verdict."""
+        self.put("a.demo", content("one-join.demo"))
+        out, found, _ = self.many(status=1, env={"ARENA_CLI": shutil.which("true")})
+        self.assertEqual(self.ends(found), {"a.demo": "failed"})
+        self.assertIn("failed: a.demo: the judging program ended with status 0", out)
+
     def test_stored_outputs(self):
         for name in ("duel", "tour", "packet-faults"):
             self.put(name + ".demo", content(name + ".demo"))

@@ -65,6 +65,12 @@ class Pages(Calls):
 
     def test_what_cannot_be_shown(self):
         self.call("replay", status=2)
+        empty = self.path("empty.demo", b"")
+        why = b"replay: recording refused: line 1, fault 10; there is no frame before it to show\n"
+        self.assertEqual(self.call("replay", empty, status=1)[:2], (b"", why))
+        no_program = {"ARENA_CLI": shutil.which("false")}
+        why = b"replay: the program ended with status 1: it said nothing\n"
+        self.assertEqual(self.call("replay", example("duel.demo"), status=1, env=no_program)[:2], (b"", why))
         self.call("replay", self.path("none"), status=2)
         self.call("replay", example("duel.out"), status=1)
         self.call("replay", example("duel.demo"), example("duel.demo"), status=1)

@@ -68,7 +68,7 @@ class Stats(Calls):
         self.assertFalse(cut["whole"])
         _, error, _ = self.call("stats", self.path("cut.demo", content("duel.demo")[:500]), status=1)
         self.assertIn(b"recording refused: line 25, fault 10 (status 1)", error)
-        for words in ([], ["-"], ["-", "-"], [self.path("none")], [self.folder], [example("duel.demo"), "--sing"]):
+        for words in ([], ["-"], ["-", "-"], [self.path("none")], [self.folder], [""], [example("duel.demo"), ""], [example("duel.demo"), "--sing"]):
             self.call("stats", *words, status=2)
         self.call("stats", example("duel.out"), status=1)
         error, status = self.into_closed_pipe("stats", example("duel.demo"), example("duel.out"))

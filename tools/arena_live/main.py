@@ -83,11 +83,20 @@ def read_words() -> argparse.Namespace:
 
 
 def say(text: str) -> None:
-    """Prints a line. A match goes on where these can't be written."""
+    """Prints a line. A match goes on where these can't be written; then only that is said, once."""
     try:
         print(f"live: {program.shown(text)}", flush=True)
-    except OSError:
+    except OSError as why:
         os.dup2(os.open(os.devnull, os.O_WRONLY), sys.stdout.fileno())
+        complain(f"no line can be written any more: {program.sentence_of(why)[0]}; the status says how it ended")
+
+
+def complain(text: str) -> None:
+    """Says on standard error why the front can't begin."""
+    try:
+        print(f"live: {program.shown(text)}", file=sys.stderr, flush=True)
+    except OSError:
+        os.dup2(os.open(os.devnull, os.O_WRONLY), sys.stderr.fileno())
 
 
 class Live:
@@ -245,11 +254,12 @@ def main() -> int:
         print(f"live: {program.sentence_of(fault)[0]}", file=sys.stderr)
         return MISUSED
     try:
-        if (why := why_not()) is not None:
+        why = why_not() or (program.unreadable(words.map) if words.map is not None else None)
+        if why is not None:
             raise Misuse(why)
         return asyncio.run(Live(words).run())
     except (Misuse, SaveFault, ProgramEnded, arena.FormatError) as fault:
-        say(str(fault))
+        complain(str(fault))
         return MISUSED
     except KeyboardInterrupt:
         say("not judged: it was stopped")

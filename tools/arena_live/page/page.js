@@ -334,7 +334,7 @@ const WALK = {
   KeyW: [0, 1], ArrowUp: [0, 1], KeyS: [0, -1], ArrowDown: [0, -1],
   KeyA: [-1, 0], ArrowLeft: [-1, 0], KeyD: [1, 0], ArrowRight: [1, 0],
 };
-const WISH = 320, SHOT_PAUSE = 150;
+const WISH = 320, SHOT_PAUSE = 150, LONGEST_MS = 50;
 const keys = { down: new Set(), walked: 0, pointer: null, pressed: false, shotAt: 0, isNear: false };
 
 function wishOf(angle) {
@@ -369,7 +369,8 @@ function nextCommands(ms, now) {
 
 let steppedTo = null, saidAt = 0;
 
-// Commands for the time that has passed since the last ones. A page that was asleep doesn't make up for its sleep.
+// Commands for the time that has passed since the last ones. A page that was asleep doesn't make up for its sleep; one
+// that was late for a moment does so by longer commands, since the front takes seven packets of a frame.
 function step(now) {
   if (now - saidAt > 1000) {
     saidAt = now;
@@ -379,11 +380,12 @@ function step(now) {
     steppedTo = now;
     return;
   }
-  const ms = Math.max(10, Math.min(50, Math.round(match.period / 2)));
+  const ms = Math.max(10, Math.min(LONGEST_MS, Math.round(match.period / 2)));
   if (now - steppedTo > 250) steppedTo = now - ms;
   const solids = allSolids(match.seen);
-  for (; now - steppedTo >= ms; steppedTo += ms) {
-    const commands = nextCommands(ms, now);
+  while (now - steppedTo >= ms) {
+    const longer = Math.min(Math.floor((now - steppedTo) / ms), Math.floor(LONGEST_MS / ms)) * ms;
+    const commands = nextCommands(longer, now);
     for (const command of commands) {
       own.number += 1;
       Object.assign(command, { number: own.number, sentAt: now });
@@ -391,7 +393,8 @@ function step(now) {
       if (!isDown(match.slot)) own.state = move(own.state, command, solids);
       own.pending.push(command);
     }
-    own.steppedAt = steppedTo + ms;
+    steppedTo += longer;
+    own.steppedAt = steppedTo;
     send(...movePacket(commands));
   }
 }
