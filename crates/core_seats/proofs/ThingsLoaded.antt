@@ -22,7 +22,7 @@ use Rattle.core_steps.specs.Stands.{IsStart}
 use Rattle.std.proofs.Math.ListN.{get_or-map}
 use Rattle.box_strips.specs.Strips.{StripsView}
 use Rattle.core_seats.specs.ThingBits.{AreMarked}
-use Rattle.core_seats.specs.ThingStrips.{MarksBoxes, MarksThings}
+use Rattle.core_seats.specs.ThingStrips.{MarksBoxes, AreThingBoxes, MarksThings}
 use Rattle.core_seats.specs.Shown.{RulesView, fixed_of, IsRuledWith}
 use Rattle.core_seats.proofs.NearLists.{AreFound, found_at_ids}
 use Rattle.core_seats.proofs.KeptNear.{IsBelowAll, AreRising, are_rising}
@@ -269,9 +269,9 @@ few_high meaning rules validity start =
     omega (arith, few, sized, same)
 
 -- the things at the start, where the records of players are left out
-pub are_things : {A : Type 0} (meaning : A → Meaning) (rules : RulesView A) (leaf bits first : ℕ) (index : StripsView) → HasValidity (fixed_of meaning rules).takes (fixed_of meaning rules).effect_of
-    → IsRuledWith (fixed_of meaning rules) rules.start leaf bits first index → AreThings (fixed_of meaning rules) (drop first rules.start)
-are_things meaning rules leaf bits first index validity ruled =
+pub are_things : {A : Type 0} (meaning : A → Meaning) (rules : RulesView A) (leaf bits first : ℕ) (boxes : List Bounds) (index : StripsView) → HasValidity (fixed_of meaning rules).takes (fixed_of meaning rules).effect_of
+    → IsRuledWith (fixed_of meaning rules) rules.start leaf bits first boxes index → AreThings (fixed_of meaning rules) (drop first rules.start)
+are_things meaning rules leaf bits first boxes index validity ruled =
     let F = fixed_of meaning rules in
     subst (AreThings F) (sym ruled.things) (record {
       ids = high_ids rules.start;
@@ -293,15 +293,19 @@ same_things : (F : Fixed) (one two : List Rec) → AreThings F one → AreThings
 same_things F one two a b =
     sym (all_at_ids F.start.record_of one a.found) ∙ ap (map F.start.record_of) (a.ids ∙ sym b.ids) ∙ all_at_ids F.start.record_of two b.found
 
--- bits that the things have which a region touches
-pub things_marked : (F : Fixed) (things : List Rec) (region : List Bounds) (bits : List ℕ) → AreThings F things → MarksBoxes (map abs_of things) region bits → MarksThings F region bits
-things_marked F things region bits are marks others are_others =
-    subst (λ (xs : List Rec). AreMarked region xs bits) (same_things F things others are are_others) (record {
-      few = let few = are.few in omega (arith, few);
-      each = λ k d within touch.
-          let long = length-map things abs_of in
-          marks k (abs_of d) (omega (arith, within, long)) (ap (λ (b : Bounds). touches_region b region) (get_or-map abs_of things k d) ∙ touch);
-    })
+-- the boxes of the things, and bits that those have which a region touches
+module _ (F : Fixed) (things : List Rec) (boxes : List Bounds) (are : AreThings F things) (boxed : boxes ≡ map abs_of things) where
+  pub things_boxed : AreThingBoxes F boxes
+  things_boxed others are_others = boxed ∙ ap (λ (rs : List Rec). map abs_of rs) (same_things F things others are are_others)
+
+  pub things_marked : (region : List Bounds) (bits : List ℕ) → MarksBoxes boxes region bits → MarksThings F region bits
+  things_marked region bits marks others are_others =
+      subst (λ (bs : List Bounds). AreMarked region bs bits) (things_boxed others are_others) (record {
+        few = let few = are.few in
+            let long = ap (λ (bs : List Bounds). length bs) boxed ∙ length-map things abs_of in
+            omega (arith, few, long);
+        each = marks;
+      })
 
 -- the records of the start are within their bounds
 all_found : (f : ℕ → Rec) (P : Rec → Type 0) (rs : List Rec) → AreFound f rs → AllByRecursion P (map f (map (λ (r : Rec). r.id) rs)) → AllByRecursion P rs

@@ -11,7 +11,7 @@ use crate::reading::read_record;
 use crate::reads::LoadedPlayers;
 use crate::rules::Rules;
 use crate::thing_bits::{ThingBits, near_things};
-use arena_geo::Region;
+use arena_geo::{Aabb, Region};
 use entity_recs::{Action, Rec};
 use world_tree::NearList;
 
@@ -115,7 +115,7 @@ impl<'a, A: Action> Rules<'a, A> {
     ghost use Rattle.std.specs.Prelude.{◌≡◌, ◌<◌, ◌≤◌, [], length};
     ghost use Rattle.std.specs.List.Sorted.{IsStrictlyIncreasing};
     ghost use Rattle.core_seats.specs.NearKept.{AreThings, players_kept};
-    ghost use Rattle.core_seats.specs.ThingStrips.{MarksThings};
+    ghost use Rattle.core_seats.specs.ThingStrips.{AreThingBoxes, MarksThings};
     ghost use Rattle.core_seats.specs.Shown.{fixed_of};
 
     /// Puts the records of the words kept of live players but this one that touch a region into an empty list, in rising
@@ -150,6 +150,13 @@ impl<'a, A: Action> Rules<'a, A> {
         ensures rise { IsStrictlyIncreasing (fixed_of A.meaning self.now).start.ids }
     {
         &self.start.as_slice()[self.first_thing..]
+    }
+
+    /// The absolute boxes of the things of the map, in rising id.
+    pub fn thing_boxes(&self) -> &[Aabb]
+        ensures { AreThingBoxes (fixed_of A.meaning self.now) result.now }
+    {
+        self.boxes.as_slice()
     }
 
     /// The bits of the things of the map that touch a region, each by its place among the things; those of others may be

@@ -5,7 +5,7 @@ ghost use Rattle.core_steps.specs.Points.{Sensing, Resolving};
 ghost use Rattle.core_steps.specs.Reads.{region_in, things_in};
 ghost use Rattle.core_steps.specs.Steps.{sensing, view_after_state};
 ghost use Rattle.core_seats.specs.NearKept.{AreThings, things_loaded};
-ghost use Rattle.core_seats.specs.ThingStrips.{MarksThings};
+ghost use Rattle.core_seats.specs.ThingStrips.{AreThingBoxes, MarksThings};
 ghost use Rattle.ruled_words.specs.Hands.{IsOwnHand};
 ghost use Rattle.ruled_words.specs.Passes.{fixed_in};
 ghost use Rattle.ruled_words.specs.Straight.{in_view};
@@ -14,7 +14,7 @@ ghost use Rattle.ruled_words.specs.Sensing.{after_thing};
 use crate::hand::Hand;
 use crate::shared_words::SharedWords;
 use crate::word_step::WordStep;
-use arena_geo::Region;
+use arena_geo::{Aabb, Region};
 use core_seats::{ThingBits, next_thing};
 use core_steps::FIRST_STATE_WORD;
 use entity_recs::{Action, Rec};
@@ -27,6 +27,13 @@ impl<'a, A: Action> SharedWords<'a, A> {
         ensures rise { IsStrictlyIncreasing (fixed_in A.meaning self.now).start.ids }
     {
         self.rules.map_things()
+    }
+
+    /// The absolute boxes of the things of the map at the start, in rising id.
+    fn thing_boxes(&self) -> &[Aabb]
+        ensures { AreThingBoxes (fixed_in A.meaning self.now) result.now }
+    {
+        self.rules.thing_boxes()
     }
 
     /// The bits of the things of the map that touch a region, each by its place among the things; those of others may be
@@ -48,7 +55,9 @@ impl<'a, A: Action> SharedWords<'a, A> {
     {
         let word = usize::from(FIRST_STATE_WORD) + usize::from(r.id);
         let state = self.step_hand(hand, word, WordStep::Load);
-        Rec { state, ..*r }
+        let mut thing = *r;
+        thing.state = state;
+        thing
     }
 
     /// Loads the states of the things of the map that the region touches, once all lists are read, and puts the things
@@ -72,8 +81,9 @@ impl<'a, A: Action> SharedWords<'a, A> {
     {
         let bits = self.thing_bits(region);
         let things = self.map_things();
+        let boxes = self.thing_boxes();
         let mut at = 0;
-        while let Some(place) = next_thing(things, &bits, region, at) {
+        while let Some(place) = next_thing(boxes, &bits, region, at) {
             // The list has room for all players and all things.
             let _ = near.push(self.load_thing(hand, &things[place]));
             at = place + 1;
