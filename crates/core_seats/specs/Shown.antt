@@ -1,5 +1,5 @@
 -- What doesn't change in the core of the code, as the definitions have it.
-use Rattle.std.specs.Prelude.{◌≡◌, ◌<◌, ◌≤◌, ℕ, nat_le, List, length, drop, filter, map}
+use Rattle.std.specs.Prelude.{◌≡◌, ◌<◌, ◌≤◌, ℕ, true, All, nat_le, List, length, drop, filter, map}
 use Rattle.areanode.specs.Words.{has_bit}
 use Rattle.areanode.specs.Trees.{TreeView, IsTreeDepth}
 use Rattle.areanode.specs.declared.sizes.TheConstants.{MOST_LEAVES}
@@ -9,6 +9,7 @@ use Rattle.entity_recs.specs.Actions.{Meaning}
 use Rattle.core_steps.specs.Nodes.{Fixed, has, inner_nodes}
 use Rattle.core_steps.specs.Stands.{IsStart}
 use Rattle.arena_geo.specs.Bounds.{Bounds}
+use Rattle.arena_geo.specs.Boxes.{contains}
 use Rattle.box_strips.specs.Strips.{StripsView, IsIndexOf}
 use Rattle.entity_recs.specs.Bodies.{abs_of}
 
@@ -34,8 +35,8 @@ pub record IsRuled (F : Fixed) : Type 0 where
   pub start : IsStart F
 
 -- the same, with the first leaf's node, the slots of the live players as the bits of a word, and the things of the map
--- from a place on, with their absolute boxes and an index of these
-pub record IsRuledWith (F : Fixed) (records : List Rec) (leaf bits first : ℕ) (boxes : List Bounds) (index : StripsView) :
+-- from a place on, with their absolute boxes, a box in which these lie, and an index of them
+pub record IsRuledWith (F : Fixed) (records : List Rec) (leaf bits first : ℕ) (boxes : List Bounds) (area : Bounds) (index : StripsView) :
     Type 0 where
   pub depth : IsTreeDepth F.tree.depth
   pub start : IsStart F
@@ -45,4 +46,5 @@ pub record IsRuledWith (F : Fixed) (records : List Rec) (leaf bits first : ℕ) 
   pub fits : first ≤ length records
   pub things : drop first records ≡ filter (λ (r : Rec). nat_le 64 r.id) records
   pub boxed : boxes ≡ map abs_of (drop first records)
+  pub around : All (λ b. contains area b ≡ true) boxes
   pub placed : IsIndexOf index boxes

@@ -1,5 +1,5 @@
 -- The boxes of the things of the map, and what their index must not miss.
-use Rattle.std.specs.Prelude.{ℕ, ◌≡◌, ◌<◌, true, List, length, map, slice_index_or}
+use Rattle.std.specs.Prelude.{ℕ, ◌≡◌, ◌<◌, true, All, List, length, map, slice_index_or}
 use Rattle.entity_recs.specs.declared.rec.Rec.{Rec}
 use Rattle.arena_geo.specs.Bounds.{Bounds}
 use Rattle.arena_geo.specs.Regions.{touches_region}
@@ -21,3 +21,7 @@ AreThingBoxes F boxes = (things : List Rec) → AreThings F things → boxes ≡
 -- each thing of the map that the region touches has its bit among these
 abbrev pub MarksThings : Fixed → List Bounds → List ℕ → Type 0
 MarksThings F region bits = (things : List Rec) → AreThings F things → AreMarked region (map abs_of things) bits
+
+-- the region touches all things of the map
+abbrev pub TouchesAll : Fixed → List Bounds → Type 0
+TouchesAll F region = (things : List Rec) → AreThings F things → All (λ r. touches_region (abs_of r) region ≡ true) things

@@ -8,7 +8,7 @@ use crate::queue::NodeQueue;
 use crate::reading::read_record;
 use crate::reads::PlayerRead;
 use crate::records::find_record;
-use crate::thing_bits::{ThingIndex, abs_boxes, index_of};
+use crate::thing_bits::{ThingIndex, abs_boxes, area_of, index_of};
 use areanode::Tree;
 use arena_geo::{Aabb, Region};
 use core_steps::NODE_HOLDERS;
@@ -31,7 +31,9 @@ pub struct Rules<'a, A: Action> {
     pub(crate) first_thing: usize,
     /// The absolute boxes of the things.
     pub(crate) boxes: Vec<Aabb>,
-    /// Where they lie.
+    /// A box in which all of them lie.
+    pub(crate) area: Aabb,
+    /// Where they lie in it.
     pub(crate) index: ThingIndex,
 }
 
@@ -44,7 +46,7 @@ impl<'a, A: Action> Model for Rules<'a, A> {
 
     ghost invariant = { λ r. IsRuledWith (fixed_of A.meaning
         (record { action = r.action.now; tree = r.tree; start = r.start.items }))
-        r.start.items r.first_leaf r.players r.first_thing r.boxes.items r.index };
+        r.start.items r.first_leaf r.players r.first_thing r.boxes.items r.area r.index };
 }
 
 impl<'a, A: Action> Rules<'a, A> {
@@ -81,7 +83,8 @@ impl<'a, A: Action> Rules<'a, A> {
         let first_leaf = tree.first_leaf();
         let first_thing = count_players(start);
         let boxes = abs_boxes(alloc, &start[first_thing..])?;
-        let index = index_of(alloc, boxes.as_slice())?;
+        let area = area_of(boxes.as_slice());
+        let index = index_of(alloc, &area, boxes.as_slice())?;
         Ok(Rules {
             action,
             tree: *tree,
@@ -90,6 +93,7 @@ impl<'a, A: Action> Rules<'a, A> {
             players: player_bits(start),
             first_thing,
             boxes,
+            area,
             index,
         })
     }

@@ -1,5 +1,6 @@
-ghost use Rattle.std.specs.Prelude.{◌≡◌, ◌≤◌, ◌*◌, All, IfOk, List, length, map, MatchOption};
+ghost use Rattle.std.specs.Prelude.{◌≡◌, ◌≤◌, ◌*◌, true, All, IfOk, List, length, map, MatchOption};
 ghost use Rattle.arena_geo.specs.Bounds.{Bounds};
+ghost use Rattle.arena_geo.specs.Boxes.{contains};
 ghost use Rattle.entity_recs.specs.Records.{IsRecord};
 ghost use Rattle.entity_recs.specs.Bodies.{abs_of};
 ghost use Rattle.box_strips.specs.Strips.{IsIndexOf};
@@ -36,7 +37,9 @@ pub fn abs_boxes(alloc: Global, records: &[Rec]) -> Result<Vec<Aabb>, AllocError
 }
 
 /// The least box that has these boxes and the middle of the arena in it.
-fn area_of(boxes: &[Aabb]) -> Aabb {
+pub fn area_of(boxes: &[Aabb]) -> Aabb
+    ensures { All (λ b. contains result b ≡ true) boxes.now }
+{
     let mut area = Aabb::from_corners(Vec3::ZERO, Vec3::ZERO);
     for one in boxes {
         area = area.hull(one);
@@ -44,12 +47,12 @@ fn area_of(boxes: &[Aabb]) -> Aabb {
     area
 }
 
-/// The index of these boxes of things.
-pub fn index_of(alloc: Global, boxes: &[Aabb]) -> Result<ThingIndex, AllocError>
+/// The index of these boxes of things, by strips of the box in which they lie.
+pub fn index_of(alloc: Global, area: &Aabb, boxes: &[Aabb]) -> Result<ThingIndex, AllocError>
     requires { length boxes.now ≤ 64 * THING_WORDS }
     ensures { IfOk result (λ index. IsIndexOf index boxes.now) }
 {
-    ThingIndex::of(alloc, &area_of(boxes), boxes)
+    ThingIndex::of(alloc, area, boxes)
 }
 
 /// The bits of the things that lie near a box of a region: those of all that touch it.

@@ -14,7 +14,7 @@ loop-place-preserved c =
       least = up c.args.from c.loop-place.at place c.loop-place.invariant.least next.least;
       apart = apart_past region boxes c.args.bits.now c.args.from c.loop-place.at c.requires c.loop-place.invariant.apart place next
           (λ d.
-          ap (λ (b : Bounds). touches_region b region) (any_else boxes place d _ next.within)
+          ap (λ (b : Bounds). touches_region b region) (any_else boxes place d c.index-boxes-place.result next.within ∙ sym c.index-boxes-place.is)
           ∙ sym c.if-is_touched_by.ensures.value);
     }
   where

@@ -13,7 +13,7 @@ returns g c =
     let validity : HasValidity F.takes F.effect_of = met.validity c.self.inside.action.now in
     let things = drop c.self.inside.first_thing c.self.inside.start.items in
     let boxes = c.self.inside.boxes.items in
-    let are = are_things g.A.Action.meaning rules c.self.inside.first_leaf c.self.inside.players c.self.inside.first_thing boxes c.self.inside.index validity c.self.invariant in
+    let are = are_things g.A.Action.meaning rules c.self.inside.first_leaf c.self.inside.players c.self.inside.first_thing boxes c.self.inside.area c.self.inside.index validity c.self.invariant in
     let marks : MarksThings F c.args.region.now c.near_things.result =
     things_marked F things boxes are c.self.invariant.boxed c.args.region.now c.near_things.result (c.near_things.ensures boxes c.self.invariant.placed) in
     rw (← c.self.view_is) marks
