@@ -7,7 +7,7 @@ use Rattle.std.proofs.Math.ListN.{get_or-map}
 use Rattle.arena_geo.specs.Bounds.{Bounds}
 use Rattle.arena_geo.specs.Regions.{touches_region}
 use Rattle.entity_recs.specs.declared.rec.Rec.{Rec}
-use Rattle.std.specs.Prelude.{All, if◌then◌else◌, ◌↔◌, nat_le, IsTrue}
+use Rattle.std.specs.Prelude.{if◌then◌else◌, ◌↔◌, nat_le, IsTrue}
 use Rattle.std.specs.Bool.{MatchBool}
 use Rattle.std.proofs.lemmas.Bool.{false≢true}
 use Rattle.entity_recs.specs.declared.effect.Effect.{Effect}
@@ -135,6 +135,9 @@ module _ (region boxes : List Bounds) (things : List Rec) (boxed : boxes ≡ map
   none_by_boxes from apart k d least less within =
       touched_at k d ∙ apart k (abs_of d) least (omega (arith, within, as_many)) (omega (arith, within, as_many))
 
+  pub within_things : (k : ℕ) → k < length boxes → k < length things
+  within_things k within = omega (arith, within, as_many)
+
   pub next_by_boxes : (from place : ℕ) → IsNextThing region boxes from place → IsNextTouched region things from place
   next_by_boxes from place next = record {
     least = next.least;
@@ -238,16 +241,3 @@ module _ (F : Fixed) (things : List Rec) (region : List Bounds) (are : AreThings
     sensed_near = is.near_is
         ∙ ap (λ (rs : List Rec). before ++ filter_map (thing_with p.view.states) (records_touching region rs)) (take_all k things end)
         ∙ ap (λ (rs : List Rec). before ++ rs) (sym (loaded_of_region F things region are p.view.states))
-
-  module _ (p : PassView) (near : List Rec) (k : ℕ) (one : Rec) (one_is : one ≡ get_or things k one) (there : k < length things) (is : AreSensed region things start p before near k)
-      (all : All (λ r. touches_region (abs_of r) region ≡ true) things) where
-    -- where all things are touched, the one at this place comes next
-    pub one_at : p.view.point ≡ Sensing (one.id ∷ after_thing p.view.point)
-    one_at = subst (λ (r : Rec). p.view.point ≡ Sensing (r.id ∷ after_thing p.view.point)) (sym one_is) (sensed_at p near k one there is (all k one there))
-
-    -- and its state was loaded
-    pub one_loaded : (new : PassView) (state : ℕ) → new ≡ in_view p (view_after_state one.id state (after_thing p.view.point) p.view)
-        → AreSensed region things start new before (near ++ with_state one state ∷ []) (k + 1)
-    one_loaded new state after =
-        subst (λ (r : Rec). AreSensed region things start new before (near ++ with_state r state ∷ []) (k + 1)) (sym one_is)
-        (sensed_one p near k one there is (all k one there) new state (after ∙ ap (λ (r : Rec). in_view p (view_after_state r.id state (after_thing p.view.point) p.view)) one_is))

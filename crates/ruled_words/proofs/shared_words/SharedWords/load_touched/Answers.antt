@@ -6,7 +6,7 @@ use Rattle.core_steps.specs.Reads.{things_in}
 use Rattle.core_steps.specs.Steps.{sensing}
 use Rattle.core_seats.specs.ThingBits.{AreMarked}
 use Rattle.ruled_words.specs.Passes.{fixed_in}
-use Rattle.ruled_words.proofs.StateSteps.{put_last, AreSensed, sensed_none, sensed_at, sensed_room, sensed_one, sensed_until, sensed_view, sensed_near, next_by_boxes, none_by_boxes}
+use Rattle.ruled_words.proofs.StateSteps.{put_last, AreSensed, sensed_none, sensed_at, sensed_room, sensed_one, sensed_until, sensed_view, sensed_near, within_things, next_by_boxes, none_by_boxes}
 use Rattle.ruled_words.proofs.shared_words.SharedWords.load_touched.Goals as goal
 
 pub next_thing-requires : goal.next_thing-requires
@@ -14,6 +14,18 @@ next_thing-requires g c =
     let things = c.map_things-things.result.now in
     let are = c.map_things-things.ensures.things in
     subst (λ (bs : List Bounds). AreMarked c.args.region.now bs c.thing_bits-bits.result) (sym (c.thing_boxes-boxes.ensures things are)) (c.thing_bits-bits.ensures things are)
+
+pub bounds-things-place : goal.bounds-things-place
+bounds-things-place g c =
+    let things = c.map_things-things.result.now in
+    within_things c.args.region.now c.thing_boxes-boxes.result.now things (c.thing_boxes-boxes.ensures things c.map_things-things.ensures.things) c.in-Some.place c.in-Some.ensures.within
+
+pub offset_bounds-things-place : goal.offset_bounds-things-place
+offset_bounds-things-place g c =
+    let things = c.map_things-things.result.now in
+    let here = within_things c.args.region.now c.thing_boxes-boxes.result.now things (c.thing_boxes-boxes.ensures things c.map_things-things.ensures.things) c.in-Some.place c.in-Some.ensures.within in
+    let few = c.map_things-things.ensures.things.few in
+    omega (arith, here, few)
 
 pub load_thing-requires-clause-at : goal.load_thing-requires-clause-at
 load_thing-requires-clause-at g c κs within =
