@@ -5,6 +5,7 @@ pub mod ReadLists
 pub mod NearLists
 pub mod KeptNear
 pub mod SlotBits
+pub mod Around
 pub mod ThingsLoaded
 pub mod SlotLists
 pub mod ThingPlaces

@@ -7,7 +7,8 @@ use Rattle.std.proofs.lemmas.Bool.{cases_Bool, cond-true, cond-false, eq-eqb, ne
 use Rattle.std.proofs.lemmas.List.{length-map, length-drop, take_all, take_more, drop_more}
 use Rattle.std.proofs.lemmas.List.Elements.{All-get_or, All-from_recursion, recursion_from_All, filter_map-append}
 use Rattle.arena_geo.specs.Bounds.{Bounds}
-use Rattle.arena_geo.specs.Regions.{touches_region}
+use Rattle.arena_geo.specs.Boxes.{contains}
+use Rattle.arena_geo.specs.Regions.{touches_region, is_inside}
 use Rattle.entity_recs.specs.declared.limits.TheConstants.{IDS}
 use Rattle.entity_recs.specs.declared.rec.Rec.{Rec}
 use Rattle.entity_recs.specs.declared.effect.NewState.{NewState}
@@ -18,13 +19,16 @@ use Rattle.core_steps.specs.Reads.{state_at, thing_of, things_in}
 use Rattle.core_seats.specs.NearKept.{AreAtIds, AreThings, thing_with, records_touching, things_loaded}
 use Rattle.entity_recs.specs.Actions.{Meaning, HasValidity}
 use Rattle.entity_recs.proofs.Ids.{id_in}
+use Rattle.entity_recs.proofs.Standing.{records_have_boxes}
+use Rattle.core_steps.proofs.Exclusion.{inside_touches}
 use Rattle.core_steps.specs.Stands.{IsStart}
 use Rattle.std.proofs.Math.ListN.{get_or-map}
 use Rattle.box_strips.specs.Strips.{StripsView}
 use Rattle.core_seats.specs.ThingBits.{AreMarked}
-use Rattle.core_seats.specs.ThingStrips.{MarksBoxes, MarksThings}
+use Rattle.core_seats.specs.ThingStrips.{MarksBoxes, AreThingBoxes, MarksThings, TouchesAll}
 use Rattle.core_seats.specs.Shown.{RulesView, fixed_of, IsRuledWith}
 use Rattle.core_seats.proofs.NearLists.{AreFound, found_at_ids}
+use Rattle.core_seats.proofs.Around.{inside_through}
 use Rattle.core_seats.proofs.KeptNear.{IsBelowAll, AreRising, are_rising}
 
 -- ---- ids that rise
@@ -269,9 +273,9 @@ few_high meaning rules validity start =
     omega (arith, few, sized, same)
 
 -- the things at the start, where the records of players are left out
-pub are_things : {A : Type 0} (meaning : A → Meaning) (rules : RulesView A) (leaf bits first : ℕ) (index : StripsView) → HasValidity (fixed_of meaning rules).takes (fixed_of meaning rules).effect_of
-    → IsRuledWith (fixed_of meaning rules) rules.start leaf bits first index → AreThings (fixed_of meaning rules) (drop first rules.start)
-are_things meaning rules leaf bits first index validity ruled =
+pub are_things : {A : Type 0} (meaning : A → Meaning) (rules : RulesView A) (leaf bits first : ℕ) (boxes : List Bounds) (area : Bounds) (index : StripsView) → HasValidity (fixed_of meaning rules).takes (fixed_of meaning rules).effect_of
+    → IsRuledWith (fixed_of meaning rules) rules.start leaf bits first boxes area index → AreThings (fixed_of meaning rules) (drop first rules.start)
+are_things meaning rules leaf bits first boxes area index validity ruled =
     let F = fixed_of meaning rules in
     subst (AreThings F) (sym ruled.things) (record {
       ids = high_ids rules.start;
@@ -293,15 +297,30 @@ same_things : (F : Fixed) (one two : List Rec) → AreThings F one → AreThings
 same_things F one two a b =
     sym (all_at_ids F.start.record_of one a.found) ∙ ap (map F.start.record_of) (a.ids ∙ sym b.ids) ∙ all_at_ids F.start.record_of two b.found
 
--- bits that the things have which a region touches
-pub things_marked : (F : Fixed) (things : List Rec) (region : List Bounds) (bits : List ℕ) → AreThings F things → MarksBoxes (map abs_of things) region bits → MarksThings F region bits
-things_marked F things region bits are marks others are_others =
-    subst (λ (xs : List Rec). AreMarked region xs bits) (same_things F things others are are_others) (record {
-      few = let few = are.few in omega (arith, few);
-      each = λ k d within touch.
-          let long = length-map things abs_of in
-          marks k (abs_of d) (omega (arith, within, long)) (ap (λ (b : Bounds). touches_region b region) (get_or-map abs_of things k d) ∙ touch);
-    })
+-- the boxes of the things, and bits that those have which a region touches
+module _ (F : Fixed) (things : List Rec) (boxes : List Bounds) (are : AreThings F things) (boxed : boxes ≡ map abs_of things) where
+  pub things_boxed : AreThingBoxes F boxes
+  things_boxed others are_others = boxed ∙ ap (λ (rs : List Rec). map abs_of rs) (same_things F things others are are_others)
+
+  pub things_marked : (region : List Bounds) (bits : List ℕ) → MarksBoxes boxes region bits → MarksThings F region bits
+  things_marked region bits marks others are_others =
+      subst (λ (bs : List Bounds). AreMarked region bs bits) (things_boxed others are_others) (record {
+        few = let few = are.few in
+            let long = ap (λ (bs : List Bounds). length bs) boxed ∙ length-map things abs_of in
+            omega (arith, few, long);
+        each = marks;
+      })
+
+  -- where all lie in a box that lies in one of the region
+  pub all_touched : (area : Bounds) (region : List Bounds) → All (λ b. contains area b ≡ true) boxes → All IsRecord things → is_inside area region ≡ true → TouchesAll F region
+  all_touched area region around records inside others are_others =
+      subst (λ (rs : List Rec). All (λ r. touches_region (abs_of r) region ≡ true) rs) (same_things F things others are are_others) (λ k d within.
+      let r = get_or things k d in
+      let long = ap (λ (bs : List Bounds). length bs) boxed ∙ length-map things abs_of in
+      let box_is = ap (λ (bs : List Bounds). get_or bs k (abs_of d)) boxed ∙ get_or-map abs_of things k d in
+      let holds = subst (λ (b : Bounds). contains area b ≡ true) box_is (around k (abs_of d) (omega (arith, within, long))) in
+      let ordered = (records_have_boxes r (All-get_or IsRecord things k d within records)).abs.ordered in
+      inside_touches (abs_of r) region ordered (inside_through area (abs_of r) region holds inside))
 
 -- the records of the start are within their bounds
 all_found : (f : ℕ → Rec) (P : Rec → Type 0) (rs : List Rec) → AreFound f rs → AllByRecursion P (map f (map (λ (r : Rec). r.id) rs)) → AllByRecursion P rs

@@ -1,5 +1,5 @@
 -- What doesn't change in the core of the code, as the definitions have it.
-use Rattle.std.specs.Prelude.{◌≡◌, ◌<◌, ◌≤◌, ℕ, nat_le, List, length, drop, filter, map}
+use Rattle.std.specs.Prelude.{◌≡◌, ◌<◌, ◌≤◌, ℕ, true, All, nat_le, List, length, drop, filter, map}
 use Rattle.areanode.specs.Words.{has_bit}
 use Rattle.areanode.specs.Trees.{TreeView, IsTreeDepth}
 use Rattle.areanode.specs.declared.sizes.TheConstants.{MOST_LEAVES}
@@ -8,6 +8,8 @@ use Rattle.entity_recs.specs.Worlds.{world_of}
 use Rattle.entity_recs.specs.Actions.{Meaning}
 use Rattle.core_steps.specs.Nodes.{Fixed, has, inner_nodes}
 use Rattle.core_steps.specs.Stands.{IsStart}
+use Rattle.arena_geo.specs.Bounds.{Bounds}
+use Rattle.arena_geo.specs.Boxes.{contains}
 use Rattle.box_strips.specs.Strips.{StripsView, IsIndexOf}
 use Rattle.entity_recs.specs.Bodies.{abs_of}
 
@@ -33,8 +35,9 @@ pub record IsRuled (F : Fixed) : Type 0 where
   pub start : IsStart F
 
 -- the same, with the first leaf's node, the slots of the live players as the bits of a word, and the things of the map
--- from a place on, with an index of their absolute boxes
-pub record IsRuledWith (F : Fixed) (records : List Rec) (leaf bits first : ℕ) (index : StripsView) : Type 0 where
+-- from a place on, with their absolute boxes, a box in which these lie, and an index of them
+pub record IsRuledWith (F : Fixed) (records : List Rec) (leaf bits first : ℕ) (boxes : List Bounds) (area : Bounds) (index : StripsView) :
+    Type 0 where
   pub depth : IsTreeDepth F.tree.depth
   pub start : IsStart F
   pub leaf_is : leaf ≡ inner_nodes F
@@ -42,4 +45,6 @@ pub record IsRuledWith (F : Fixed) (records : List Rec) (leaf bits first : ℕ) 
   pub slots : (slot : ℕ) → slot < 64 → has_bit bits slot ≡ has F.start.ids slot
   pub fits : first ≤ length records
   pub things : drop first records ≡ filter (λ (r : Rec). nat_le 64 r.id) records
-  pub placed : IsIndexOf index (map abs_of (drop first records))
+  pub boxed : boxes ≡ map abs_of (drop first records)
+  pub around : All (λ b. contains area b ≡ true) boxes
+  pub placed : IsIndexOf index boxes

@@ -86,3 +86,10 @@ pub fn touches_region(r: &Rec, region: &Region) -> bool
 {
     region.boxes().iter().any(|one| touches(r, one))
 }
+
+/// Whether a box lies in one of a region.
+pub fn is_inside(b: &Aabb, region: &Region) -> bool
+    ensures { result ≡ regions.is_inside b.now region.now }
+{
+    region.boxes().iter().any(|one| one.contains(b))
+}

@@ -6,12 +6,12 @@ ghost use Rattle.areanode.specs.Words.{has_bit};
 ghost use Rattle.core_steps.specs.Nodes.{has};
 ghost use Rattle.entity_recs.specs.declared.rec.Rec.{Rec};
 
-use crate::boxes::touches_region;
+use crate::boxes::{is_inside, touches_region};
 use crate::reading::read_record;
 use crate::reads::LoadedPlayers;
 use crate::rules::Rules;
 use crate::thing_bits::{ThingBits, near_things};
-use arena_geo::Region;
+use arena_geo::{Aabb, Region};
 use entity_recs::{Action, Rec};
 use world_tree::NearList;
 
@@ -113,9 +113,10 @@ fn put_slots(slots: u64, by_slot: &LoadedPlayers, region: &Region, list: &mut Ne
 
 impl<'a, A: Action> Rules<'a, A> {
     ghost use Rattle.std.specs.Prelude.{◌≡◌, ◌<◌, ◌≤◌, [], length};
+    ghost use Rattle.std.specs.Bool.{OnTrue};
     ghost use Rattle.std.specs.List.Sorted.{IsStrictlyIncreasing};
     ghost use Rattle.core_seats.specs.NearKept.{AreThings, players_kept};
-    ghost use Rattle.core_seats.specs.ThingStrips.{MarksThings};
+    ghost use Rattle.core_seats.specs.ThingStrips.{AreThingBoxes, MarksThings, TouchesAll};
     ghost use Rattle.core_seats.specs.Shown.{fixed_of};
 
     /// Puts the records of the words kept of live players but this one that touch a region into an empty list, in rising
@@ -150,6 +151,20 @@ impl<'a, A: Action> Rules<'a, A> {
         ensures rise { IsStrictlyIncreasing (fixed_of A.meaning self.now).start.ids }
     {
         &self.start.as_slice()[self.first_thing..]
+    }
+
+    /// The absolute boxes of the things of the map, in rising id.
+    pub fn thing_boxes(&self) -> &[Aabb]
+        ensures { AreThingBoxes (fixed_of A.meaning self.now) result.now }
+    {
+        self.boxes.as_slice()
+    }
+
+    /// Whether it is known at once that a region touches all things of the map: they lie in one of its boxes.
+    pub fn has_all_things(&self, region: &Region) -> bool
+        ensures { OnTrue result (TouchesAll (fixed_of A.meaning self.now) region.now) }
+    {
+        is_inside(&self.area, region)
     }
 
     /// The bits of the things of the map that touch a region, each by its place among the things; those of others may be

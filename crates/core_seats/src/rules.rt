@@ -8,9 +8,9 @@ use crate::queue::NodeQueue;
 use crate::reading::read_record;
 use crate::reads::PlayerRead;
 use crate::records::find_record;
-use crate::thing_bits::{ThingIndex, index_of};
+use crate::thing_bits::{ThingIndex, abs_boxes, area_of, index_of};
 use areanode::Tree;
-use arena_geo::Region;
+use arena_geo::{Aabb, Region};
 use core_steps::NODE_HOLDERS;
 use entity_recs::{Action, Cmd, Effect, NewState, Rec, abs_box};
 use std::alloc::{AllocError, Global};
@@ -29,7 +29,11 @@ pub struct Rules<'a, A: Action> {
     pub(crate) players: u64,
     /// How many of the records are players'. The things of the map come after them.
     pub(crate) first_thing: usize,
-    /// Where the things lie.
+    /// The absolute boxes of the things.
+    pub(crate) boxes: Vec<Aabb>,
+    /// A box in which all of them lie.
+    pub(crate) area: Aabb,
+    /// Where they lie in it.
     pub(crate) index: ThingIndex,
 }
 
@@ -42,7 +46,7 @@ impl<'a, A: Action> Model for Rules<'a, A> {
 
     ghost invariant = { λ r. IsRuledWith (fixed_of A.meaning
         (record { action = r.action.now; tree = r.tree; start = r.start.items }))
-        r.start.items r.first_leaf r.players r.first_thing r.index };
+        r.start.items r.first_leaf r.players r.first_thing r.boxes.items r.area r.index };
 }
 
 impl<'a, A: Action> Rules<'a, A> {
@@ -78,7 +82,9 @@ impl<'a, A: Action> Rules<'a, A> {
     {
         let first_leaf = tree.first_leaf();
         let first_thing = count_players(start);
-        let index = index_of(alloc, &start[first_thing..])?;
+        let boxes = abs_boxes(alloc, &start[first_thing..])?;
+        let area = area_of(boxes.as_slice());
+        let index = index_of(alloc, &area, boxes.as_slice())?;
         Ok(Rules {
             action,
             tree: *tree,
@@ -86,6 +92,8 @@ impl<'a, A: Action> Rules<'a, A> {
             start: Vec::from_slice(alloc, start)?,
             players: player_bits(start),
             first_thing,
+            boxes,
+            area,
             index,
         })
     }

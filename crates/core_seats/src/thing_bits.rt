@@ -1,12 +1,12 @@
-ghost use Rattle.std.specs.Prelude.{◌≡◌, ◌≤◌, ◌*◌, All, IfOk, List, length, map, MatchOption};
+ghost use Rattle.std.specs.Prelude.{◌≡◌, ◌≤◌, ◌*◌, true, All, IfOk, List, length, map, MatchOption};
 ghost use Rattle.arena_geo.specs.Bounds.{Bounds};
+ghost use Rattle.arena_geo.specs.Boxes.{contains};
 ghost use Rattle.entity_recs.specs.Records.{IsRecord};
 ghost use Rattle.entity_recs.specs.Bodies.{abs_of};
 ghost use Rattle.box_strips.specs.Strips.{IsIndexOf};
 ghost use Rattle.core_seats.specs.ThingBits.{AreMarked, AreApart, IsNextThing};
 ghost use Rattle.core_seats.specs.ThingStrips.{MarksBoxes};
 
-use crate::boxes::touches_region;
 use arena_geo::{Aabb, Region, Vec3};
 use box_strips::{BoxStrips, next_place};
 use entity_recs::{IDS, Rec, abs_box};
@@ -25,7 +25,7 @@ pub type ThingBits = [u64; THING_WORDS];
 pub type ThingIndex = BoxStrips<THING_STRIPS, THING_WORDS>;
 
 /// The absolute boxes of these records.
-fn abs_boxes(alloc: Global, records: &[Rec]) -> Result<Vec<Aabb>, AllocError>
+pub fn abs_boxes(alloc: Global, records: &[Rec]) -> Result<Vec<Aabb>, AllocError>
     requires { All IsRecord records.now }
     ensures { IfOk result (λ boxes. boxes.items ≡ map abs_of records.now) }
 {
@@ -37,7 +37,9 @@ fn abs_boxes(alloc: Global, records: &[Rec]) -> Result<Vec<Aabb>, AllocError>
 }
 
 /// The least box that has these boxes and the middle of the arena in it.
-fn area_of(boxes: &[Aabb]) -> Aabb {
+pub fn area_of(boxes: &[Aabb]) -> Aabb
+    ensures { All (λ b. contains result b ≡ true) boxes.now }
+{
     let mut area = Aabb::from_corners(Vec3::ZERO, Vec3::ZERO);
     for one in boxes {
         area = area.hull(one);
@@ -45,15 +47,12 @@ fn area_of(boxes: &[Aabb]) -> Aabb {
     area
 }
 
-/// The index of these things.
-pub fn index_of(alloc: Global, things: &[Rec]) -> Result<ThingIndex, AllocError>
-    requires records { All IsRecord things.now }
-    requires few { length things.now ≤ 64 * THING_WORDS }
-    ensures { IfOk result (λ index. IsIndexOf index (map abs_of things.now)) }
+/// The index of these boxes of things, by strips of the box in which they lie.
+pub fn index_of(alloc: Global, area: &Aabb, boxes: &[Aabb]) -> Result<ThingIndex, AllocError>
+    requires { length boxes.now ≤ 64 * THING_WORDS }
+    ensures { IfOk result (λ index. IsIndexOf index boxes.now) }
 {
-    let boxes = abs_boxes(alloc, things)?;
-    let area = area_of(boxes.as_slice());
-    ThingIndex::of(alloc, &area, boxes.as_slice())
+    ThingIndex::of(alloc, area, boxes)
 }
 
 /// The bits of the things that lie near a box of a region: those of all that touch it.
@@ -68,15 +67,16 @@ pub fn near_things(index: &ThingIndex, region: &Region) -> ThingBits
     bits
 }
 
-/// The place of the first of these things, from a place on, that touches a region, where these are bits of all that do.
-pub fn next_thing(things: &[Rec], bits: &ThingBits, region: &Region, from: usize) -> Option<usize>
-    requires { AreMarked region.now things.now bits.now }
-    ensures { MatchOption result (AreApart region.now things.now from (length things.now))
-        (IsNextThing region.now things.now from) }
+/// The place of the first of these boxes of things, from a place on, that touches a region, where these are bits of all
+/// that do.
+pub fn next_thing(boxes: &[Aabb], bits: &ThingBits, region: &Region, from: usize) -> Option<usize>
+    requires { AreMarked region.now boxes.now bits.now }
+    ensures { MatchOption result (AreApart region.now boxes.now from (length boxes.now))
+        (IsNextThing region.now boxes.now from) }
 {
     let mut at = from;
-    while let Some(place) = next_place(bits, at, things.len()) {
-        if touches_region(&things[place], region) {
+    while let Some(place) = next_place(bits, at, boxes.len()) {
+        if region.is_touched_by(&boxes[place]) {
             return Some(place);
         }
         at = place + 1;

@@ -3,6 +3,7 @@ use Rattle.std.proofs.Common.{◌≡◌, ℕ, zero, suc, ◌+◌, ◌-◌, ◌�
 use Rattle.std.specs.List.{filter_map}
 use Rattle.std.specs.List.Sorted.{IsStrictlyIncreasing}
 use Rattle.std.proofs.lemmas.List.{take_all, drop_all, length-map}
+use Rattle.std.proofs.Math.ListN.{get_or-map}
 use Rattle.arena_geo.specs.Bounds.{Bounds}
 use Rattle.arena_geo.specs.Regions.{touches_region}
 use Rattle.entity_recs.specs.declared.rec.Rec.{Rec}
@@ -16,7 +17,7 @@ use Rattle.entity_recs.specs.Records.{with_state}
 use Rattle.core_steps.specs.Nodes.{Fixed}
 use Rattle.core_steps.specs.Points.{Point, Sensing, Resolving}
 use Rattle.core_steps.specs.Reads.{things_in}
-use Rattle.core_seats.specs.ThingBits.{AreApart}
+use Rattle.core_seats.specs.ThingBits.{AreApart, IsNextThing}
 use Rattle.core_seats.specs.NearKept.{AreThings, thing_with, records_touching, things_loaded}
 use Rattle.world_tree.specs.Nears.{NearView}
 use Rattle.core_seats.proofs.ThingsLoaded.{things_of_region, loaded_of_region, things_rise, touching_same, loaded_more, left_first, left_same}
@@ -103,6 +104,48 @@ pub put_last : (b : Bool) (near new : NearView) (r : Rec) → IsTrue b ↔ (leng
 put_last true near new r room records few = records
 put_last false near new r room records few = absurd (false≢true (room.1 few))
 
+-- ---- the things that a region touches, by their absolute boxes
+
+-- the region touches none of the things from the first place on and before the second one
+abbrev pub AreUntouched : List Bounds → List Rec → (from to : ℕ) → Type 0
+AreUntouched region things from to = (k : ℕ) (d : Rec) → from ≤ k → k < to → k < length things → touches_region (abs_of (get_or things k d)) region ≡ false
+
+-- the thing at this place is the first from another place on that the region touches
+pub record IsNextTouched (region : List Bounds) (things : List Rec) (from place : ℕ) : Type 0 where
+  pub least : from ≤ place
+  pub within : place < length things
+  pub touches : (d : Rec) → touches_region (abs_of (get_or things place d)) region ≡ true
+  pub apart : AreUntouched region things from place
+
+module _ (region boxes : List Bounds) (things : List Rec) (boxed : boxes ≡ map abs_of things) where
+  pub as_many : length boxes ≡ length things
+  as_many = ap (λ (bs : List Bounds). length bs) boxed ∙ length-map things abs_of
+
+  box_at : (k : ℕ) (d : Rec) → get_or boxes k (abs_of d) ≡ abs_of (get_or things k d)
+  box_at k d = ap (λ (bs : List Bounds). get_or bs k (abs_of d)) boxed ∙ get_or-map abs_of things k d
+
+  touched_at : (k : ℕ) (d : Rec) → touches_region (abs_of (get_or things k d)) region ≡ touches_region (get_or boxes k (abs_of d)) region
+  touched_at k d = ap (λ (b : Bounds). touches_region b region) (sym (box_at k d))
+
+  pub untouched_by_boxes : (from to : ℕ) → AreApart region boxes from to → AreUntouched region things from to
+  untouched_by_boxes from to apart k d least less within =
+      touched_at k d ∙ apart k (abs_of d) least less (omega (arith, within, as_many))
+
+  pub none_by_boxes : (from : ℕ) → AreApart region boxes from (length boxes) → AreUntouched region things from (length things)
+  none_by_boxes from apart k d least less within =
+      touched_at k d ∙ apart k (abs_of d) least (omega (arith, within, as_many)) (omega (arith, within, as_many))
+
+  pub within_things : (k : ℕ) → k < length boxes → k < length things
+  within_things k within = omega (arith, within, as_many)
+
+  pub next_by_boxes : (from place : ℕ) → IsNextThing region boxes from place → IsNextTouched region things from place
+  next_by_boxes from place next = record {
+    least = next.least;
+    within = let here = next.within in omega (arith, here, as_many);
+    touches = λ d. touched_at place d ∙ next.touches (abs_of d);
+    apart = untouched_by_boxes from place next.apart;
+  }
+
 -- ---- the things of a region, one after another
 
 -- the states of those of the first k things that a region touches are loaded, and they stand with them in the near list
@@ -182,7 +225,7 @@ module _ (F : Fixed) (things : List Rec) (region : List Bounds) (are : AreThings
       subst (AreSensed region things start p before near) e (sensed_skips p near n (at + 1) (omega (arith, within)) one (λ k d least less. not k d (omega (arith, least)) (omega (arith, less))))
 
   -- none up to a place is touched
-  pub sensed_until : (p : PassView) (near : List Rec) (at to : ℕ) → at ≤ to → to ≤ length things → AreSensed region things start p before near at → AreApart region things at to
+  pub sensed_until : (p : PassView) (near : List Rec) (at to : ℕ) → at ≤ to → to ≤ length things → AreSensed region things start p before near at → AreUntouched region things at to
       → AreSensed region things start p before near to
   sensed_until p near at to least within is apart =
       let e : at + (to - at) ≡ to = omega (arith, least) in

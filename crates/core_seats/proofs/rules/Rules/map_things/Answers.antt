@@ -13,7 +13,7 @@ returns-clause-things g c =
     let validity : HasValidity F.takes F.effect_of = met.validity c.self.inside.action.now in
     rw (← c.self.view_is)
     (subst (AreThings F) (sym (whole_rest c.self.inside.first_thing c.as_slice.result.now ∙ ap (drop c.self.inside.first_thing) c.as_slice.ensures.value))
-    (are_things g.A.Action.meaning rules c.self.inside.first_leaf c.self.inside.players c.self.inside.first_thing c.self.inside.index validity c.self.invariant))
+    (are_things g.A.Action.meaning rules c.self.inside.first_leaf c.self.inside.players c.self.inside.first_thing c.self.inside.boxes.items c.self.inside.area c.self.inside.index validity c.self.invariant))
 
 pub returns-clause-rise : goal.returns-clause-rise
 returns-clause-rise g c = rw (← c.self.view_is) c.self.invariant.start.rising

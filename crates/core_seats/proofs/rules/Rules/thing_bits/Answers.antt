@@ -1,6 +1,5 @@
-use Rattle.std.proofs.Common.{drop, map}
+use Rattle.std.proofs.Common.{drop}
 use Rattle.entity_recs.specs.Actions.{HasValidity}
-use Rattle.entity_recs.specs.Bodies.{abs_of}
 use Rattle.core_seats.specs.Shown.{RulesView, fixed_of}
 use Rattle.core_seats.specs.ThingStrips.{MarksThings}
 use Rattle.core_seats.proofs.ThingsLoaded.{are_things, things_marked}
@@ -13,7 +12,8 @@ returns g c =
     let met = g.met.A.Action g.world.𝓛 g.world.𝓜 g.world.𝓡 ((λ s x. x), (λ x. x), (λ x. x), λ x. x) in
     let validity : HasValidity F.takes F.effect_of = met.validity c.self.inside.action.now in
     let things = drop c.self.inside.first_thing c.self.inside.start.items in
-    let are = are_things g.A.Action.meaning rules c.self.inside.first_leaf c.self.inside.players c.self.inside.first_thing c.self.inside.index validity c.self.invariant in
+    let boxes = c.self.inside.boxes.items in
+    let are = are_things g.A.Action.meaning rules c.self.inside.first_leaf c.self.inside.players c.self.inside.first_thing boxes c.self.inside.area c.self.inside.index validity c.self.invariant in
     let marks : MarksThings F c.args.region.now c.near_things.result =
-    things_marked F things c.args.region.now c.near_things.result are (c.near_things.ensures (map abs_of things) c.self.invariant.placed) in
+    things_marked F things boxes are c.self.invariant.boxed c.args.region.now c.near_things.result (c.near_things.ensures boxes c.self.invariant.placed) in
     rw (← c.self.view_is) marks

@@ -1,7 +1,7 @@
 use Rattle.std.proofs.Common.{◌≡◌, ◌≤◌, ◌-◌, length}
 use Rattle.ruled_words.specs.Hands.{IsOwnHand}
 use Rattle.ruled_words.proofs.StateSteps.{AreSensed}
-use Rattle.ruled_words.proofs.shared_words.SharedWords.load_states.Given as goal
+use Rattle.ruled_words.proofs.shared_words.SharedWords.load_touched.Given as goal
 
 abbrev pub invariant-loop-place : goal.invariant-loop-place
 invariant-loop-place g l = record {
