@@ -21,6 +21,13 @@ use std::sync::{Arc, Wait};
 /// A frame of fewer moves is run without helpers: to wake them takes about as long as to run these.
 const MOVES_WORTH_HELPERS: usize = 96;
 
+/// How many takes a move may be refused. Where more are, the players are side by side: their moves wait for one another,
+/// and one thread runs them sooner.
+const MOST_REFUSED: u64 = 2;
+
+/// For how many frames the helpers rest where more takes were refused.
+const FRAMES_OF_REST: u8 = 15;
+
 /// Who runs the moves of frames: the thread that calls, and the helpers of a crew, which are kept over frames. Each move
 /// calls the gate.
 #[derive(Drop)]
@@ -33,6 +40,8 @@ pub struct Runners<'a, G: Gate> {
 #[derive(Drop)]
 struct Team<'a, G: Gate> {
     crew: Crew<Turn<'a, G>>,
+    /// For how many frames the crew rests.
+    rest: u8,
     frame: Arc<FrameMoves<'a>, Global>,
     turns: Vec<Turn<'a, G>>,
     ghost move_room: { MOST_ARRIVALS ≤ vec_capacity (arc_value frame).moves },
@@ -119,13 +128,15 @@ impl<'a, G: Gate> Team<'a, G> {
         let (crew, helpers) = Crew::new(alloc, spares)?;
         let team = Team {
             crew,
+            rest: 0,
             frame: Arc::new(alloc, FrameMoves::none(alloc)?)?,
             turns: Vec::with_capacity(alloc, MOST_WORKERS)?,
         };
         Ok((team, helpers))
     }
 
-    /// Runs the moves by all passes, some of them in the threads of the helpers, and gives the shared world back.
+    /// Runs the moves by all passes, some of them in the threads of the helpers where these don't rest, and gives the
+    /// shared world back.
     fn run_passes<R: Wait>(
         &mut self,
         rt: &R,
@@ -141,6 +152,11 @@ impl<'a, G: Gate> Team<'a, G> {
         ensures same { result ≡ shared.entry }
         ensures served { ChangesEach (HasServedOn (map command_of moves.now) shared.entry) passes.old.items passes.new.items }
     {
+        if self.rest > 0 {
+            self.rest -= 1;
+            run_in_turn(rt, &shared, passes, moves, workers, gate);
+            return shared;
+        }
         let Some(frame) = Arc::get_mut(&mut self.frame) else {
             // The frame before has another owner still. Its turns are dropped by then, so it hasn't in truth.
             run_in_turn(rt, &shared, passes, moves, workers, gate);
@@ -150,7 +166,21 @@ impl<'a, G: Gate> Team<'a, G> {
         give_out(rt, &self.frame, gate, passes, &mut self.turns);
         self.crew.run_each(rt, self.turns.as_mut_slice());
         take_back(&mut self.turns, passes);
+        self.rest = frames_of_rest(gate, passes, moves);
         take_shared(rt, &mut self.frame)
+    }
+}
+
+/// For how many frames the helpers rest after the passes ran these moves.
+fn frames_of_rest<G: Gate>(gate: &G, passes: &PassList<MapAction>, moves: &[Cmd]) -> u8 {
+    let mut refused: u64 = 0;
+    for pass in passes {
+        refused = refused.saturating_add(pass.refused_takes());
+    }
+    if refused / MOST_REFUSED > moves.len() as u64 && !gate.needs_threads() {
+        FRAMES_OF_REST
+    } else {
+        0
     }
 }
 

@@ -78,6 +78,13 @@ impl<A> Pass<A> {
         same_entry(&entries[entries.len() - 1])
     }
 
+    /// How many of the pass's takes were refused.
+    pub fn refused_takes(&self) -> u64
+        ensures { result ≡ self.now.view.refusals }
+    {
+        self.refusals.count
+    }
+
     /// The pass's number.
     pub fn number(&self) -> u8
         ensures { result ≡ self.now.number }
