@@ -21,12 +21,8 @@ use std::sync::{Arc, Wait};
 /// A frame of fewer moves is run without helpers: to wake them takes about as long as to run these.
 const MOVES_WORTH_HELPERS: usize = 96;
 
-/// How many takes a move may be refused. Where more are, the players are side by side: their moves wait for one another,
-/// and one thread runs them sooner.
-const MOST_REFUSED: u64 = 2;
-
-/// For how many frames the helpers rest where more takes were refused.
-const FRAMES_OF_REST: u8 = 15;
+/// The most frames for which the helpers rest where moves waited too much for one another.
+const MOST_REST: u8 = 15;
 
 /// Who runs the moves of frames: the thread that calls, and the helpers of a crew, which are kept over frames. Each move
 /// calls the gate.
@@ -40,8 +36,10 @@ pub struct Runners<'a, G: Gate> {
 #[derive(Drop)]
 struct Team<'a, G: Gate> {
     crew: Crew<Turn<'a, G>>,
-    /// For how many frames the crew rests.
+    /// For how many frames the crew rests yet.
     rest: u8,
+    /// For how many it rested last, 0 where it has run a frame since in which moves waited little.
+    last_rest: u8,
     frame: Arc<FrameMoves<'a>, Global>,
     turns: Vec<Turn<'a, G>>,
     ghost move_room: { MOST_ARRIVALS ≤ vec_capacity (arc_value frame).moves },
@@ -129,6 +127,7 @@ impl<'a, G: Gate> Team<'a, G> {
         let team = Team {
             crew,
             rest: 0,
+            last_rest: 0,
             frame: Arc::new(alloc, FrameMoves::none(alloc)?)?,
             turns: Vec::with_capacity(alloc, MOST_WORKERS)?,
         };
@@ -166,19 +165,28 @@ impl<'a, G: Gate> Team<'a, G> {
         give_out(rt, &self.frame, gate, passes, &mut self.turns);
         self.crew.run_each(rt, self.turns.as_mut_slice());
         take_back(&mut self.turns, passes);
-        self.rest = frames_of_rest(gate, passes, moves);
+        self.last_rest = frames_of_rest(self.last_rest, gate, passes, moves);
+        self.rest = self.last_rest;
         take_shared(rt, &mut self.frame)
     }
 }
 
-/// For how many frames the helpers rest after the passes ran these moves.
-fn frames_of_rest<G: Gate>(gate: &G, passes: &PassList<MapAction>, moves: &[Cmd]) -> u8 {
+/// For how many frames the helpers rest after the passes ran these moves, where they rested for so many before. Where a
+/// move was refused more takes than there are passes, on average, the players are side by side, or a thread was held up:
+/// one thread runs such moves sooner.
+fn frames_of_rest<G: Gate>(
+    before: u8,
+    gate: &G,
+    passes: &PassList<MapAction>,
+    moves: &[Cmd],
+) -> u8 {
     let mut refused: u64 = 0;
     for pass in passes {
         refused = refused.saturating_add(pass.refused_takes());
     }
-    if refused / MOST_REFUSED > moves.len() as u64 && !gate.needs_threads() {
-        FRAMES_OF_REST
+    let most = (moves.len() as u64).saturating_mul(passes.len() as u64);
+    if refused > most && !gate.needs_threads() {
+        before.saturating_mul(2).saturating_add(1).min(MOST_REST)
     } else {
         0
     }
