@@ -22,7 +22,7 @@ use std::sync::{Arc, Wait};
 const MOVES_WORTH_HELPERS: usize = 96;
 
 /// The most frames for which the helpers rest where moves waited too much for one another.
-const MOST_REST: u8 = 15;
+const MOST_REST: u8 = 127;
 
 /// Who runs the moves of frames: the thread that calls, and the helpers of a crew, which are kept over frames. Each move
 /// calls the gate.
