@@ -15,7 +15,7 @@ pub enum Event {
     End,
 }
 
-// A packet is 272 bytes: what is handed on from the reader to the frame is the kind, beside a packet that is lent.
+// A packet is 272 bytes: who lends one to the reader is handed the kind alone. The program takes whole events.
 /// What an [`Event`] is, where its packet is lent beside it.
 #[derive(Clone, Copy, Debug, PartialEq, Eq)]
 pub enum EventKind {
