@@ -100,13 +100,16 @@ fn gather_as<N: Ported + Send + Sync, R: Threads + Wait + Sync, F: FeedHold>(
 {
     let (queue, pass) = Line::<N>::ruled(alloc, arrivals.len().max(1))?;
     let places = PlaceList::new(alloc)?;
+    if arrivals.is_empty() {
+        return Ok(ArrivalOrder::of_popped(places, pass));
+    }
     let (places, reader) = gather_through::<N, R, F>(rt, &queue, pass, arrivals, gate, places);
     Ok(ArrivalOrder::of_popped(places, reader))
 }
 
 /// The order in which two client threads send these packets, as places in `arrivals`: feeder 0 sends those of even ports
 /// and feeder 1 those of odd ports, each in their order. The gate is called after each packet by the feeder that has sent
-/// it.
+/// it. Without packets no thread is started.
 ///
 /// All memory is taken before a feeder starts: the queue has room for all packets, so none is refused. The only error is
 /// that memory is refused.
