@@ -36,7 +36,7 @@ pub fn abs_boxes(alloc: Global, records: &[Rec]) -> Result<Vec<Aabb>, AllocError
     Ok(boxes)
 }
 
-/// The least box that has these boxes and the middle of the arena in it.
+/// The least box that has these boxes and the point 0, 0, 0 in it (so that no boxes have one too).
 pub fn area_of(boxes: &[Aabb]) -> Aabb
     ensures { All (λ b. contains result b ≡ true) boxes.now }
 {

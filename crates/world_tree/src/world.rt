@@ -255,7 +255,7 @@ impl World {
         ensures free { result ≡ is_free self.now.records body.now fixed.now except }
         ensures linked { IsLinked self.now }
     {
-        // The players first: they are few, and stand where others want to join.
+        // The live solids first: they are few, and stand where players want to join.
         !is_blocked_by_solids(&self.records, body, except) && !body.is_blocked(fixed)
     }
 }
