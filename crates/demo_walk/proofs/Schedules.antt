@@ -1,10 +1,11 @@
 -- Who joins when, and which word is drawn for a move.
 use Rattle.std.proofs.Common.{◌≡◌, ℕ, zero, suc, ◌+◌, ◌-◌, ◌*◌, ◌/◌, ◌≤◌, ◌<◌, true, false, [], length, Some, refl, sym, ap, ◌∙◌, arith, ◌++◌, map}
-use Rattle.std.specs.Prelude.{min}
+use Rattle.std.specs.Prelude.{min, Contains}
 use Rattle.std.specs.List.{range_with_len, slice_get}
 use Rattle.std.proofs.lemmas.List.FromFn.{length-map-range_with_len, get_or-map-range_with_len}
 use Rattle.std.proofs.lemmas.Option.{slice_get-get_or}
 use Rattle.arena_map.specs.Maps.{MapView, is_ready}
+use Rattle.packet_read.specs.declared.arrival.Arrival.{Arrival}
 use Rattle.demo_make.specs.Words.{word_of, next_state, state_after, word_at}
 use Rattle.demo_make.specs.GeneratedFrames.{join_from, move_from, ports}
 use Rattle.demo_make.specs.GeneratedFrames as made
@@ -153,6 +154,30 @@ module _ (m : MapView) (seed players frames : ℕ) where
   no-frames : is_ready m ≡ false → frames_on m seed players frames ≡ []
   no-frames none = rw none refl
 
+-- ---- the packets of a frame
+
+-- the joins of these ports have that of each of them
+join-of : (before by port : ℕ) → before < port → port ≤ by
+    → Contains (map join_from (range_with_len (before + 1) (by - before))) (join_from port)
+join-of before by port above within =
+    let place = port - (before + 1) in
+    let count = length-map-range_with_len join_from (before + 1) (by - before) in
+    let less : place < by - before = omega (arith, above, within) in
+    let same : before + 1 + place ≡ port = omega (arith, above) in
+    (place, omega (arith, count, less), get_or-map-range_with_len join_from (before + 1) (by - before) place port (join_from port) less same)
+
+move-at : (seed players places frame i : ℕ) → i < joined_by places players frame
+    → slice_get (moves_in seed players places frame) i ≡ Some (move_in seed players places frame (i + 1))
+move-at seed players places frame i less =
+    at (move_in seed players places frame) (joined_by places players frame) less
+  where
+    at : (f : ℕ → Arrival) (n : ℕ) → i < n → slice_get (map f (ports n)) i ≡ Some (f (i + 1))
+    at f n few =
+        let count = length-map-range_with_len f 1 n in
+        let same : 1 + i ≡ i + 1 = omega arith in
+        slice_get-get_or (map f (range_with_len 1 n)) i (f 0) (omega (arith, count, few))
+        ∙ ap (λ a. Some a) (get_or-map-range_with_len f 1 n i (i + 1) (f 0) few same)
+
 -- ---- laws
 
 pub joins_are_known : JoinsAreKnown
@@ -169,7 +194,9 @@ joins_are_known = record {
     length-map-range_with_len join_from (joined_before places players frame + 1) (joined_by places players frame - joined_before places players frame),
     joined-more places players frame,
   );
+  each = λ players places frame port. join-of (joined_before places players frame) (joined_by places players frame) port;
   moves = λ seed players places frame. length-map-range_with_len (move_in seed players places frame) 1 (joined_by places players frame);
+  in_turn = move-at;
   frames = frames-count;
   on_map = λ m seed players frames frame ready less. frame-at m seed players frames frame ready less;
   without_spawn = no-frames;

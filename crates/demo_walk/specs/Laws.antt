@@ -64,8 +64,8 @@ pub record PlacesAreKnown : Type 0 where
 -- who joins when: in frame 0 as many players as there are places, by each later frame no fewer than before, and never
 -- more than there are players; all of them where the frames are enough. By any frame it is the greatest number n of them
 -- with 64 * n at most places * (frame + 64). Each joins once: a frame has the joins of the ports above those that joined
--- before, up to those that joined by it, and then one move of each that joined. On a map with a spawn there are so many
--- frames, each by the places of the map; on one without a spawn there is none
+-- before, up to those that joined by it, and then one move of each that joined, in the order of ports. On a map with a
+-- spawn there are so many frames, each by the places of the map; on one without a spawn there is none
 pub record JoinsAreKnown : Type 0 where
   pub first : (places players : ℕ) → players ≤ places → joined_by places players 0 ≡ players
   pub first_few : (places players : ℕ) → places ≤ players → joined_by places players 0 ≡ places
@@ -78,8 +78,12 @@ pub record JoinsAreKnown : Type 0 where
       → n ≤ joined_by places players frame
   pub joins : (players places frame : ℕ)
       → joined_before places players frame + length (joins_in players places frame) ≡ joined_by places players frame
+  pub each : (players places frame port : ℕ) → joined_before places players frame < port
+      → port ≤ joined_by places players frame → Contains (joins_in players places frame) (join_from port)
   pub moves : (seed players places frame : ℕ)
       → length (moves_in seed players places frame) ≡ joined_by places players frame
+  pub in_turn : (seed players places frame i : ℕ) → i < joined_by places players frame
+      → slice_get (moves_in seed players places frame) i ≡ Some (move_in seed players places frame (i + 1))
   pub frames : (m : MapView) (seed players frames : ℕ) → is_ready m ≡ true
       → length (frames_on m seed players frames) ≡ frames
   pub on_map : (m : MapView) (seed players frames frame : ℕ) → is_ready m ≡ true → frame < frames

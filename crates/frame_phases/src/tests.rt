@@ -8,9 +8,9 @@ use arena_geo::Vec3;
 use arena_map::{ArenaMap, MOST_FRAMES, MapLine, MapRefusal};
 use client_ports::Joined;
 use entity_recs::{Entry, Kind};
+use for_helpers::ForHelpers;
 use move_phase::Runners;
 use packet_read::{Arrival, ArrivalBytes};
-use shared_moves::NoGate;
 use std::alloc::{AllocGlobal, Global};
 use std::process::Abort;
 use std::sync::Wait;
@@ -22,6 +22,7 @@ const JOIN: [u8; 2] = [1, 1];
 const LEAVE: [u8; 2] = [1, 3];
 
 mod crossing;
+mod for_helpers;
 mod no_memory;
 mod one_leaf;
 mod oracle;
@@ -144,7 +145,7 @@ fn play(
     requires { length arrivals.now ≤ 512 }
 {
     assert!(rt; server.frames() < MOST_FRAMES);
-    let mut runners = Runners::alone(&NoGate);
+    let mut runners = Runners::alone(&ForHelpers);
     run_frame(rt, rt.alloc(), server, arrivals, 1, &mut runners, out)?;
     Ok(())
 }

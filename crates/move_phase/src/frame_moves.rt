@@ -1,9 +1,9 @@
 ghost use Rattle.std.specs.Prelude.{◌≡◌, ◌≤◌, [], length, Some, None, vec_capacity};
-ghost use Rattle.packet_read.specs.declared.arrival.TheConstants.{MOST_ARRIVALS};
+ghost use Rattle.client_ports.specs.declared.received.TheConstants.{MOST_FRAME_MOVES};
 
 use arena_actions::MapAction;
+use client_ports::MOST_FRAME_MOVES;
 use entity_recs::Cmd;
-use packet_read::MOST_ARRIVALS;
 use shared_moves::Shared;
 use std::alloc::{AllocError, Global};
 
@@ -19,15 +19,15 @@ pub struct FrameMoves<'a> {
 
 impl<'a> FrameMoves<'a> {
     ghost use Rattle.std.specs.Prelude.{◌≡◌, ◌≤◌, length, Some, IfOk, vec_capacity};
-    ghost use Rattle.packet_read.specs.declared.arrival.TheConstants.{MOST_ARRIVALS};
+    ghost use Rattle.client_ports.specs.declared.received.TheConstants.{MOST_FRAME_MOVES};
 
     /// No frame, with room for the moves of any. The only error is that memory is refused.
     pub fn none(alloc: Global) -> Result<FrameMoves<'a>, AllocError>
-        ensures { IfOk result (λ frame. MOST_ARRIVALS ≤ vec_capacity frame.moves) }
+        ensures { IfOk result (λ frame. MOST_FRAME_MOVES ≤ vec_capacity frame.moves) }
     {
         Ok(FrameMoves {
             shared: None,
-            moves: Vec::with_capacity(alloc, MOST_ARRIVALS as usize)?,
+            moves: Vec::with_capacity(alloc, MOST_FRAME_MOVES)?,
             workers: 0,
         })
     }

@@ -1,6 +1,6 @@
 ghost use Rattle.std.specs.Prelude.{◌≡◌, ◌<◌, ◌≤◌, true, [], length, map, All, Some, IsSome, None, IfSome, vec_capacity};
 ghost use Rattle.std.specs.Arc.{arc_value};
-ghost use Rattle.packet_read.specs.declared.arrival.TheConstants.{MOST_ARRIVALS};
+ghost use Rattle.client_ports.specs.declared.received.TheConstants.{MOST_FRAME_MOVES};
 ghost use Rattle.entity_recs.specs.Commands.{command_of};
 ghost use Rattle.move_phase.specs.declared.rooms.TheConstants.{MOST_WORKERS};
 ghost use Rattle.crew.specs.Rounds.{ChangesEach};
@@ -11,9 +11,9 @@ use crate::rooms::MOST_WORKERS;
 use crate::serve::run_in_turn;
 use crate::turn::Turn;
 use arena_actions::MapAction;
+use client_ports::MOST_FRAME_MOVES;
 use crew::{Crew, Helpers};
 use entity_recs::Cmd;
-use packet_read::MOST_ARRIVALS;
 use shared_moves::{Gate, PassList, Shared};
 use std::alloc::{AllocError, Global};
 use std::sync::{Arc, Wait};
@@ -42,7 +42,7 @@ struct Team<'a, G: Gate> {
     last_rest: u8,
     frame: Arc<FrameMoves<'a>, Global>,
     turns: Vec<Turn<'a, G>>,
-    ghost move_room: { MOST_ARRIVALS ≤ vec_capacity (arc_value frame).moves },
+    ghost move_room: { MOST_FRAME_MOVES ≤ vec_capacity (arc_value frame).moves },
     ghost turn_room: { MOST_WORKERS ≤ vec_capacity turns },
     ghost no_turn: { turns.items ≡ [] },
 }
@@ -105,10 +105,10 @@ impl<'a, G: Gate> Runners<'a, G> {
 
 /// Whether the moves are given to helpers: there are several passes, and many moves or a gate that wants threads.
 fn is_worth_helpers<G: Gate>(gate: &G, moves: &[Cmd], workers: u8) -> bool
-    ensures { result ≡ true → length moves.now ≤ MOST_ARRIVALS }
+    ensures { result ≡ true → length moves.now ≤ MOST_FRAME_MOVES }
 {
     workers > 1
-        && moves.len() <= MOST_ARRIVALS as usize
+        && moves.len() <= MOST_FRAME_MOVES
         && (moves.len() >= MOVES_WORTH_HELPERS || gate.needs_threads())
 }
 
@@ -146,7 +146,7 @@ impl<'a, G: Gate> Team<'a, G> {
         gate: &'a G,
     ) -> Shared<'a, MapAction>
         requires few { length passes.old.items ≤ MOST_WORKERS }
-        requires moves { length moves.now ≤ MOST_ARRIVALS }
+        requires moves { length moves.now ≤ MOST_FRAME_MOVES }
         requires may { All (MayServeOn workers (map command_of moves.now) shared) passes.old.items }
         ensures same { result ≡ shared.entry }
         ensures served { ChangesEach (HasServedOn (map command_of moves.now) shared.entry) passes.old.items passes.new.items }

@@ -5,4 +5,4 @@ use Rattle.plain_server.specs.Laws.{FramesBeginWithTheirTick}
 
 pub frames_begin_so : FramesBeginWithTheirTick
 unfolding received
-frames_begin_so = record { alone = λ map frame state. refl; first = λ map frame state a. refl }
+frames_begin_so = record { alone = λ map frame state. refl; first = λ map frame state a more. refl }

@@ -14,7 +14,7 @@ use Rattle.packet_read.specs.declared.arrival.Arrival.{Arrival}
 use Rattle.client_ports.specs.Clients.{client_at, AreClients}
 use Rattle.client_ports.specs.States.{State, IsServerState, state_of}
 use Rattle.client_ports.specs.Lists.{no_lists}
-use Rattle.client_ports.specs.Receiving.{Receiving, receiving_of, after_arrival}
+use Rattle.client_ports.specs.Receiving.{Receiving, receiving_of, after_arrival, after_arrivals}
 use Rattle.client_ports.specs.Finishing.{is_leaver}
 use Rattle.world_physics.specs.Ticks.{after_tick}
 use Rattle.plain_server.specs.RecordsById.{world_of, records_in, opening}
@@ -191,9 +191,12 @@ pub record FramesEndWithTheirMoves : Type 0 where
       (id : ℕ) → is_leaver (client_at r.state.clients id) ≡ true
       → record_at (state_after map r journal).records id ≡ None
 
--- a frame begins with its tick: its first packet is taken in the world after it, and without packets nothing else is
+-- a frame begins with its tick: its first packet is taken in the world after it, with place 0, and the others after that
+-- one; without packets nothing else is
 pub record FramesBeginWithTheirTick : Type 0 where
   pub alone : (map : MapView) (frame : ℕ) (state : State) → received_in map frame state []
       ≡ receiving_of (state_of state.clients (after_tick map frame state.records)) no_lists
-  pub first : (map : MapView) (frame : ℕ) (state : State) (a : Arrival) → received_in map frame state (a ∷ [])
-      ≡ after_arrival map frame (receiving_of (state_of state.clients (after_tick map frame state.records)) no_lists) 0 a
+  pub first : (map : MapView) (frame : ℕ) (state : State) (a : Arrival) (more : List Arrival)
+      → let ticked = receiving_of (state_of state.clients (after_tick map frame state.records)) no_lists in
+      received_in map frame state (a ∷ more)
+      ≡ after_arrivals map frame (after_arrival map frame ticked 0 a) 1 more

@@ -2,13 +2,13 @@ ghost use Rattle.std.specs.Prelude.{◌≡◌, true};
 ghost use Rattle.arena_actions.specs.MapActions.{IsOfItsMap};
 ghost use Rattle.arena_map.specs.MapLines.{IsWithinLimits, is_added};
 
+use super::for_helpers::ForHelpers;
 use super::oracle::{Move, Twins};
 use super::{action, at, spawn};
 use arena_actions::MapAction;
 use arena_map::MapLine;
 use crew::play_with;
 use move_phase::Runners;
-use shared_moves::NoGate;
 use std::alloc::AllocGlobal;
 use std::process::Abort;
 use std::sync::Wait;
@@ -38,7 +38,7 @@ fn along_x(slot: u8, seq: u8, wish_x: i16) -> Move {
 /// A frame in which the two players move towards each other.
 fn cross<'a>(
     rt: &(impl AllocGlobal + Abort + Threads + Wait + Sync),
-    runners: &mut Runners<'a, NoGate>,
+    runners: &mut Runners<'a, ForHelpers>,
     twins: &mut Twins<'a>,
     seq: u8,
 ) -> Result<(), Fail> {
@@ -49,7 +49,7 @@ fn cross<'a>(
 /// A frame of two joins, and then a hundred in which the players move towards each other.
 fn join_and_cross<'a>(
     rt: &(impl AllocGlobal + Abort + Threads + Wait + Sync),
-    runners: &mut Runners<'a, NoGate>,
+    runners: &mut Runners<'a, ForHelpers>,
     twins: &mut Twins<'a>,
 ) -> Result<(), Fail> {
     twins.play(rt, runners, 2, &[], 2)?;
@@ -62,7 +62,7 @@ fn join_and_cross<'a>(
 /// The same on two servers of this action's map, with a helper that is kept over all frames.
 fn expect_crossed<'a>(
     rt: &(impl AllocGlobal + Abort + Threads + Wait + Sync),
-    gate: &'a NoGate,
+    gate: &'a ForHelpers,
     action: &'a MapAction,
 ) -> Result<(), Fail>
     requires { IsOfItsMap action.now }
@@ -83,5 +83,5 @@ fn expect_crossed<'a>(
 #[test]
 fn crossing_moves(rt: HostRuntime) -> Result<(), Fail> {
     let action = action(rt.alloc(), &spawn(), &spawn_beside())?;
-    expect_crossed(&rt, &NoGate, &action)
+    expect_crossed(&rt, &ForHelpers, &action)
 }

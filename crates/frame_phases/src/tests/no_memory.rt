@@ -1,6 +1,7 @@
 ghost use Rattle.std.specs.Prelude.{◌≡◌, true};
 ghost use Rattle.arena_map.specs.MapLines.{IsWithinLimits, is_added};
 
+use super::for_helpers::ForHelpers;
 use super::oracle::{Move, arrivals_of, play_on};
 use super::{action_of, at, expect_no_replies, map_of, server_of};
 use crate::{FrameOut, Server};
@@ -8,7 +9,6 @@ use arena_map::{ArenaMap, MapLine, MapRefusal};
 use entity_recs::{Entry, Kind};
 use move_phase::Runners;
 use packet_read::Arrival;
-use shared_moves::NoGate;
 use std::alloc::{AllocError, AllocGlobal, Global};
 use std::process::Abort;
 use std::sync::Wait;
@@ -120,12 +120,28 @@ fn play_at_last(
     arrivals: &[Arrival],
     out: &mut FrameOut,
 ) -> Result<(), AllocError> {
-    if play_on(rt, server, arrivals, 2, &mut Runners::alone(&NoGate), out).is_ok() {
+    if play_on(
+        rt,
+        server,
+        arrivals,
+        2,
+        &mut Runners::alone(&ForHelpers),
+        out,
+    )
+    .is_ok()
+    {
         return Ok(());
     }
     assert_eq!(rt; server.frames(), 0);
     expect_nothing(rt, out);
-    play_on(rt, server, arrivals, 2, &mut Runners::alone(&NoGate), out)
+    play_on(
+        rt,
+        server,
+        arrivals,
+        2,
+        &mut Runners::alone(&ForHelpers),
+        out,
+    )
 }
 
 /// Runs the frame of these packets, again where it is refused if `again` is set, and looks at what it gives out.
@@ -139,7 +155,14 @@ fn expect_played(
     if again {
         play_at_last(rt, server, arrivals, out)?;
     } else {
-        play_on(rt, server, arrivals, 2, &mut Runners::alone(&NoGate), out)?;
+        play_on(
+            rt,
+            server,
+            arrivals,
+            2,
+            &mut Runners::alone(&ForHelpers),
+            out,
+        )?;
     }
     expect_one_taker(rt, out)
 }

@@ -2,13 +2,13 @@ ghost use Rattle.std.specs.Prelude.{◌≡◌, ◌≤◌, true, unsigned_abs};
 ghost use Rattle.arena_actions.specs.MapActions.{IsOfItsMap};
 ghost use Rattle.arena_map.specs.MapLines.{IsWithinLimits, is_added};
 
+use super::for_helpers::ForHelpers;
 use super::oracle::{Move, Twins};
 use super::{action_of, arena, at};
 use arena_actions::MapAction;
 use arena_map::{ArenaMap, MapLine, MapRefusal};
 use crew::play_with;
 use move_phase::Runners;
-use shared_moves::NoGate;
 use std::alloc::{AllocError, AllocGlobal, Global};
 use std::process::Abort;
 use std::sync::Wait;
@@ -59,7 +59,7 @@ fn moves_in_place(alloc: Global) -> Result<Vec<Move>, AllocError> {
 /// A frame in which sixteen players join and make their moves, on sixteen workers.
 fn join_and_stay<'a>(
     rt: &(impl AllocGlobal + Abort + Threads + Wait + Sync),
-    runners: &mut Runners<'a, NoGate>,
+    runners: &mut Runners<'a, ForHelpers>,
     twins: &mut Twins<'a>,
 ) -> Result<(), Fail> {
     let moves = moves_in_place(rt.alloc())?;
@@ -70,7 +70,7 @@ fn join_and_stay<'a>(
 /// The same on two servers of this action's map, with fifteen helpers.
 fn expect_stayed<'a>(
     rt: &(impl AllocGlobal + Abort + Threads + Wait + Sync),
-    gate: &'a NoGate,
+    gate: &'a ForHelpers,
     action: &'a MapAction,
 ) -> Result<(), Fail>
     requires { IsOfItsMap action.now }
@@ -91,5 +91,5 @@ fn expect_stayed<'a>(
 #[test]
 fn sixteen_on_one_leaf(rt: HostRuntime) -> Result<(), Fail> {
     let action = action_of(rt.alloc(), crowded_map(rt.alloc()))?;
-    expect_stayed(&rt, &NoGate, &action)
+    expect_stayed(&rt, &ForHelpers, &action)
 }

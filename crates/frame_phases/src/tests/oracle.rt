@@ -1,5 +1,6 @@
 ghost use Rattle.move_phase.specs.Serving.{AreWorkers};
 
+use super::for_helpers::ForHelpers;
 use super::{JOIN, arrival};
 use crate::{FrameOut, Server, run_frame};
 use arena_actions::MapAction;
@@ -7,7 +8,6 @@ use arena_map::MOST_FRAMES;
 use entity_recs::Entry;
 use move_phase::Runners;
 use packet_read::{Arrival, MOST_ARRIVALS};
-use shared_moves::NoGate;
 use std::alloc::{AllocError, AllocGlobal, Global};
 use std::process::Abort;
 use std::sync::Wait;
@@ -69,7 +69,7 @@ pub fn play_on<'a>(
     server: &mut Server<'a>,
     arrivals: &[Arrival],
     workers: u8,
-    runners: &mut Runners<'a, NoGate>,
+    runners: &mut Runners<'a, ForHelpers>,
     out: &mut FrameOut,
 ) -> Result<(), AllocError>
     requires { AreWorkers workers }
@@ -157,7 +157,7 @@ impl<'a> Twins<'a> {
     pub fn play(
         &mut self,
         rt: &(impl AllocGlobal + Abort + Threads + Wait + Sync),
-        runners: &mut Runners<'a, NoGate>,
+        runners: &mut Runners<'a, ForHelpers>,
         joins: u8,
         moves: &[Move],
         workers: u8,
@@ -181,7 +181,7 @@ impl<'a> Twins<'a> {
     fn play_again(
         &mut self,
         rt: &(impl AllocGlobal + Abort + Threads + Wait + Sync),
-        runners: &mut Runners<'a, NoGate>,
+        runners: &mut Runners<'a, ForHelpers>,
         joins: u8,
         moves: &[Move],
     ) -> Result<(), Fail> {
