@@ -61,7 +61,7 @@ HasRoomForWays room target m = (text : List ℕ) → ShowsWays m target text →
 -- a recording from this source was read, and a plan of the way from its first spawn to this one was written to this sink
 pub record IsPlanned {S K : Type 0} (s : sources.Ghosts S) (k : sinks.Ghosts K) (target : ℕ) (source source' : S) (sink sink' : K)
     (r : Report) : Type 0 where
-  -- its status isn't the one that only `check` gives
+  -- its status isn't the one that only `check` and `audit` give
   pub known : r.status ≡ 6 → ⊥
   -- the recording has no fault, and the text of a plan was written
   pub done : r.status ≡ 0 → IfSome (s.left source) (λ bytes. HasMap bytes (λ m.

@@ -15,7 +15,7 @@ use Rattle.arena_engine.specs.Texts.{Texts, play_texts, feed_texts}
 -- a recording from this source was played, and what is right for it among these texts was written to this sink
 pub record IsPlayedWith {S K : Type 0} (s : sources.Ghosts S) (k : sinks.Ghosts K) (texts : Texts) (source source' : S)
     (sink sink' : K) (r : Report) : Type 0 where
-  -- its status isn't one of those that only `check` and `bots` give
+  -- its status isn't one of those that only `check`, `audit` and `bots` give
   pub known : r.status ≤ 5
   -- the output of the recording was written, and the report has the last frame of it
   pub done : r.status ≡ 0 → IfSome (s.left source) (λ bytes.

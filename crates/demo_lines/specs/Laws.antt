@@ -147,8 +147,8 @@ pub record HasLines (count : ℕ) : Type 0 where
   pub lines : length (recording_lines map frames) ≡ count
 
 -- up to its end or its refused line a recording has at most 1 line with the arena, 1 that names the depth, 1 that lets
--- players shoot, 1 that allows 4,096 blocks, 64 with spawns, 4,096 with blocks, 448 with things, 100,000 times 1 that opens a frame and 512 with its
--- packets, and 1 that ends it or is refused; and some have so many
+-- players shoot, 1 that allows 4,096 blocks, 64 with spawns, 4,096 with blocks, 448 with things, 100,000 times 1 that
+-- opens a frame and 512 with its packets, and 1 that ends it or is refused; and some have so many
 pub record LinesAreBounded : Type 0 where
   pub bound : (lines : List (List ℕ)) → is_over (after start lines).stage ≡ false → length lines < most_lines
   pub longest : HasLines most_lines
