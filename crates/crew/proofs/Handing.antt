@@ -1,10 +1,9 @@
 -- What the leader has handed over, and has again.
-use Rattle.std.proofs.Common.{◌≡◌, ℕ, List, [], ◌∷◌, Option, Some, None, suc, map, length, get_or, sym, ap, subst, ◌∙◌, arith}
+use Rattle.std.proofs.Common.{◌≡◌, ℕ, List, [], ◌∷◌, Option, Some, suc, map, length, get_or, sym, ap, subst, ◌∙◌, arith}
 use Rattle.std.proofs.lemmas.Option.{same_Some}
 use Rattle.atomic_table.specs.Table.{Me}
 use Rattle.crew.specs.declared.view.View.{View}
-use Rattle.crew.specs.Views.{leading}
-use Rattle.crew.specs.Plays.{IsFreeWith, HasGiven, IsFree, IsRested, IsReady, IsGiven, IsBack, IsChanged}
+use Rattle.crew.specs.Plays.{IsFreeWith, HasGiven, IsFree, IsRested, IsBack, IsChanged}
 
 not_one : ◌≡◌ {A = ℕ} 0 1 → ⊥
 not_one e = omega arith

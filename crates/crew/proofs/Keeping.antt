@@ -1,6 +1,6 @@
 -- Each step of a post keeps its rule.
-use Rattle.std.proofs.Common.{◌≡◌, ◌≢◌, ℕ, zero, suc, ◌+◌, ◌<◌, ◌==◌, ◌++◌, Bool, List, [], ◌∷◌, ◌⊎◌, inl, inr, ⊎_elim, Option, Some, None, refl, sym, ap, subst, ◌∙◌, arith, slice_index, slice_set, get_or, ne_eqb}
-use Rattle.std.proofs.lemmas.Option.{none-some, same_Some}
+use Rattle.std.proofs.Common.{◌≡◌, ◌≢◌, ℕ, zero, suc, ◌==◌, ◌++◌, Bool, List, [], ◌∷◌, ◌⊎◌, inl, inr, ⊎_elim, Option, Some, None, refl, sym, ap, subst, ◌∙◌, arith, slice_index, slice_set, get_or, ne_eqb}
+use Rattle.std.proofs.lemmas.Option.{none-some}
 use mathlib.Core.Option.{some, none, some-injective, some-ne-none}
 use lib.ListN.{get_elem?}
 use prog.Atomic.{either}
@@ -10,7 +10,7 @@ use Rattle.crew.specs.declared.view.Role.{Role}
 use Rattle.crew.specs.declared.view.Role.TheVariants.{Alone, New, Leader, Helper}
 use Rattle.crew.specs.Views.{alone, new, leading, helping}
 use Rattle.crew.specs.Turns.{table_of, IsTurn, is_free, is_offered, is_begun, is_done, is_stopped, IsRuled, is_alone, is_new, is_paired}
-use Rattle.crew.specs.Plays.{IsFreeWith, HasGiven, IsIdle, IsAtWork, IsFree, IsReady, IsGiven, IsBack, IsChanged, HasBegun, HasWorked, opened, offered, reclaimed, collected, stopped, began, ended}
+use Rattle.crew.specs.Plays.{IsIdle, IsFree, IsReady, IsGiven, HasWorked, opened, offered, reclaimed, collected, stopped, began, ended}
 
 abbrev rank : Role → ℕ
 rank Alone = 0

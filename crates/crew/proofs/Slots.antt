@@ -1,5 +1,5 @@
 -- The slot that a seat holds, read and written.
-use Rattle.std.proofs.Common.{◌≡◌, ℕ, List, [], ◌∷◌, get_or, sym, ap, subst, ◌∙◌}
+use Rattle.std.proofs.Common.{◌≡◌, ℕ, List, [], ◌∷◌, get_or, sym, ap, ◌∙◌}
 use Rattle.atomic_table.specs.Table.{Me, rest}
 
 module _ {T V : Type 0} where

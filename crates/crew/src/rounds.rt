@@ -7,6 +7,7 @@ use crate::helper::{Helper, Helpers};
 use crate::post::Post;
 use crate::task::Task;
 use std::alloc::{AllocError, Global};
+use std::marker::Model;
 use std::sync::{Arc, Wait};
 
 /// The leader of a crew. Between two rounds none of its helpers has an item. Dropping it sends the helpers away.
@@ -15,13 +16,23 @@ pub struct Crew<T: Task> {
     ghost rested: { All (λ d. IsRested d.seat.me) desks.items },
 }
 
+// Clauses see how many helpers it has.
+impl<T: Task> Model for Crew<T> {
+    ghost use Rattle.std.specs.Prelude.{ℕ, length};
+
+    ghost Value = { ℕ };
+
+    ghost view = { λ c. length c.desks.items };
+}
+
 impl<T: Task> Crew<T> {
-    ghost use Rattle.std.specs.Prelude.{◌≡◌, length, IfOk};
+    ghost use Rattle.std.specs.Prelude.{◌≡◌, ◌+◌, length, IfOk};
 
     /// A crew with a helper for each of these spare items, which lies where the helper's item would, while it has none.
     /// The only error is that memory is refused.
     pub fn new(alloc: Global, spares: Vec<T>) -> Result<(Crew<T>, Helpers<T>), AllocError>
-        ensures { IfOk result (λ r. r.1 ≡ length spares.items) }
+        ensures crew { IfOk result (λ r. r.0 ≡ length spares.items) }
+        ensures helpers { IfOk result (λ r. r.1 ≡ length spares.items) }
     {
         let mut helpers = Vec::with_capacity(alloc, spares.len())?;
         let mut crew = Crew::alone(alloc);
@@ -32,13 +43,17 @@ impl<T: Task> Crew<T> {
     }
 
     /// A crew without helpers. It takes no memory.
-    pub fn alone(alloc: Global) -> Crew<T> {
+    pub fn alone(alloc: Global) -> Crew<T>
+        ensures { result ≡ 0 }
+    {
         Crew {
             desks: Vec::new(alloc),
         }
     }
 
-    fn add_helper(&mut self, alloc: Global, spare: T) -> Result<Helper<T>, AllocError> {
+    fn add_helper(&mut self, alloc: Global, spare: T) -> Result<Helper<T>, AllocError>
+        ensures { IfOk result (λ _. self.new ≡ self.old + 1) }
+    {
         let (desk, helper) = sides(alloc, spare)?;
         self.desks.push(desk)?;
         Ok(helper)
@@ -65,13 +80,16 @@ impl<T: Task> Crew<T> {
     /// has come to it.
     pub fn run_each<R: Wait>(&mut self, rt: &R, items: &mut [T])
         requires { All T.may_run items.old }
-        ensures { ChangesEach T.changes items.old items.new }
+        ensures helpers { self.new ≡ self.old }
+        ensures changed { ChangesEach T.changes items.old items.new }
     {
         run_turns(rt, self.desks.as_mut_slice(), items);
     }
 
     /// Sends the helpers away. Later rounds run without them.
-    pub fn stop(&mut self) {
+    pub fn stop(&mut self)
+        ensures { self.new ≡ 0 }
+    {
         stop_all(&mut self.desks);
     }
 }

@@ -1,4 +1,4 @@
-use Rattle.std.proofs.Common.{rules, ◌∷◌, ◌≤◌, length, ap, sym, arith, All}
+use Rattle.std.proofs.Common.{rules, ◌≤◌, length, sym, arith}
 use Rattle.std.proofs.lemmas.List.Elements.{All-head, All-rest, All-same}
 use Rattle.crew.specs.Plays.{IsFree}
 use Rattle.crew.proofs.rounds.+run_turn.Goals as goal

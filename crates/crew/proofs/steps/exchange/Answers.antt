@@ -1,5 +1,4 @@
-use Rattle.std.proofs.Common.{rules}
-use Rattle.crew.proofs.Slots.{slot_of, put_of, got_of}
+use Rattle.crew.proofs.Slots.{slot_of}
 use Rattle.crew.proofs.steps.exchange.Goals as goal
 
 pub slot_mut-requires : goal.slot_mut-requires

@@ -19,7 +19,7 @@ take_back-requires-clause-each g c =
     let is : IsFrameOf c.args.shared c.args.moves.now c.args.workers c.put.new.self =
     record { shared = c.put.ensures.shared; moves_are = c.put.ensures.moves; workers_are = c.put.ensures.workers } in
     let ran : ChangesEach HasRun c.give_out.new.turns.items c.run_each.new.items =
-    subst (λ (ts : List (Turn g.row.G.Denot)). ChangesEach HasRun ts c.run_each.new.items) c.as_mut_slice.ensures.value c.run_each.ensures in
+    subst (λ (ts : List (Turn g.row.G.Denot)). ChangesEach HasRun ts c.run_each.new.items) c.as_mut_slice.ensures.value c.run_each.ensures.changed in
     All-same HasSomePass _ _ (same_turns c.run_each.new.items c.give_out.new.turns.items c.give_out.new.turns.len ran.count c.give_out.new.turns.ok.0)
     (all_have_passes c.args.shared c.args.moves.now c.args.workers c.put.new.self is c.args.passes.now.items c.give_out.new.turns.items
     c.give_out.ensures.turns c.run_each.new.items ran)
@@ -29,7 +29,7 @@ returns-clause-served g c =
     let is : IsFrameOf c.args.shared c.args.moves.now c.args.workers c.put.new.self =
     record { shared = c.put.ensures.shared; moves_are = c.put.ensures.moves; workers_are = c.put.ensures.workers } in
     let ran : ChangesEach HasRun c.give_out.new.turns.items c.run_each.new.items =
-    subst (λ (ts : List (Turn g.row.G.Denot)). ChangesEach HasRun ts c.run_each.new.items) c.as_mut_slice.ensures.value c.run_each.ensures in
+    subst (λ (ts : List (Turn g.row.G.Denot)). ChangesEach HasRun ts c.run_each.new.items) c.as_mut_slice.ensures.value c.run_each.ensures.changed in
     let same = same_turns c.run_each.new.items c.give_out.new.turns.items c.give_out.new.turns.len ran.count c.give_out.new.turns.ok.0 in
     let back : AreReversed HasPass c.run_each.new.items c.take_back.new.passes.items =
     subst (λ (ts : List (Turn g.row.G.Denot)). AreReversed HasPass ts c.take_back.new.passes.items) same c.take_back.ensures.passes in
