@@ -8,3 +8,4 @@ pub mod Leaving
 pub mod Leaping
 pub mod Bounds
 pub mod Reach
+pub mod Wide

@@ -2,11 +2,12 @@ ghost use Rattle.arena_geo.specs.declared.aabb.TheConstants.{FARTHEST};
 ghost use Rattle.std.specs.Prelude.{◌≡◌, ◌&&◌, ℕ, List, [], All, Some, length, false, not, true};
 ghost use Rattle.std.specs.List.{list_any};
 ghost use Rattle.arena_geo.specs.Vectors.{IsNear};
-ghost use Rattle.arena_geo.specs.Boxes.{overlaps, is_blocked, contains};
+ghost use Rattle.arena_geo.specs.Boxes.{overlaps, is_blocked, contains, touches_on};
 ghost use Rattle.entity_recs.specs.declared.effect.NewState.{NewState};
 ghost use Rattle.entity_recs.specs.declared.kind.Kind.TheVariants.{Player};
 ghost use Rattle.entity_recs.specs.Kinds.{is_solid, is_item};
 ghost use Rattle.entity_recs.specs.Records.{IsRecord};
+ghost use Rattle.entity_recs.specs.Bodies as bodies;
 ghost use Rattle.entity_recs.specs.Bodies.{body_of, player_body};
 ghost use Rattle.arena_map.specs.Maps as maps;
 ghost use Rattle.arena_map.specs.Maps.{IsSpawn};
@@ -20,6 +21,10 @@ use entity_recs::{
     IdList, Kind, LIST_LEN, NewState, Rec, StateList, abs_box, body_box, is_touched, player_box,
 };
 use item_rules::take_item;
+
+/// The most by which the absolute box of a trigger is larger than its body at each end of the axis x, in sub-units: it
+/// is the growth of ammunition and gems. A trigger touches no box that is farther away from its body.
+const MOST_GROWTH: i32 = 3_840;
 
 /// Bit 1 of a player's flags: its last move ended in a teleporter.
 const LEAPT: u8 = 2;
@@ -156,6 +161,25 @@ fn touch(
     }
 }
 
+/// Whether the body of a record has a point between `low` and `high` on the axis x, the ends counted.
+fn touches_on_x(low: i32, high: i32, r: &Rec) -> bool
+    requires { IsRecord r.now }
+    ensures { result ≡ touches_on low high (body_of r.now).lo.x (body_of r.now).hi.x }
+{
+    low <= r.origin.x + r.maxs.x && r.origin.x + r.mins.x <= high
+}
+
+/// Whether a record is a trigger whose absolute box touches `abs`. Where its body is more than [`MOST_GROWTH`] away from
+/// `abs` on the axis x, nothing else is tested.
+fn is_near_and_touched(abs: &Aabb, r: &Rec) -> bool
+    requires { IsRecord r.now }
+    ensures { result ≡ bodies.is_touched abs.now r.now }
+{
+    let low = abs.lo().x - MOST_GROWTH;
+    let high = abs.hi().x + MOST_GROWTH;
+    touches_on_x(low, high, r) && is_touched(abs, r)
+}
+
 // All records are filtered and folded in rising id, as the definition has it. The tree's query isn't used, since a
 // move has its records as a list and no world.
 /// What a player touches after its move: the triggers among `near`, the other live records in rising id, whose absolute
@@ -183,7 +207,7 @@ pub fn touch_all(
 {
     let abs = abs_box(me);
     for trigger in near {
-        if is_touched(&abs, trigger) && touch(map, me, near, trigger, frame, out, got) {
+        if is_near_and_touched(&abs, trigger) && touch(map, me, near, trigger, frame, out, got) {
             return;
         }
     }

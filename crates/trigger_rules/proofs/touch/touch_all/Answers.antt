@@ -29,7 +29,7 @@ whole c =
     let before = walk_of c.loop-trigger.me c.loop-trigger.out c.loop-trigger.got false in
     ends-here c.args.map.now (solids_among c.args.map.now near) c.args.frame test before _ c.touch.new.me c.touch.new.out c.touch.new.got c.loop-trigger.trigger-index nobody near
     c.loop-trigger-test.true
-    (ap (λ (abs : Bounds). is_touched abs (get_or near c.loop-trigger.trigger-index nobody)) (sym c.abs_box-abs.ensures) ∙ sym c.is_touched.ensures ∙ c.if-is_touched.true)
+    (ap (λ (abs : Bounds). is_touched abs (get_or near c.loop-trigger.trigger-index nobody)) (sym c.abs_box-abs.ensures) ∙ sym c.is_near_and_touched.ensures ∙ c.if-is_near_and_touched.true)
     (ap (λ (b : Bool). walk_of c.touch.new.me c.touch.new.out c.touch.new.got b) (sym c.if-touch.true) ∙ c.touch.ensures.walk)
     c.loop-trigger.invariant.rest
 
