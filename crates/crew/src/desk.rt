@@ -13,8 +13,7 @@ use std::thread;
 /// How often the leader looks for a changed item before it yields.
 const LOOKS: u32 = 1000;
 
-/// The leader's side of a post.
-#[derive(Drop)]
+/// The leader's side of a post. It can't be dropped: `stop` alone ends it, and sends the helper away.
 pub struct Desk<T: Task> {
     pub post: Arc<Post<T>, Global>,
     pub seat: Seat<T>,
@@ -50,11 +49,12 @@ impl<T: Task> Desk<T> {
     }
 
     /// Ends the turns of this post: its helper goes.
-    pub fn stop(&mut self)
-        requires rested { IsRested self.old.seat.me }
+    pub fn stop(self)
+        requires rested { IsRested self.seat.me }
     {
-        stop(&self.post, &mut self.seat);
-        self.post.wake();
+        let Desk { post, mut seat } = self;
+        stop(&post, &mut seat);
+        post.wake();
     }
 }
 

@@ -54,8 +54,9 @@ impl<T: Task> Crew<T> {
     fn add_helper(&mut self, alloc: Global, spare: T) -> Result<Helper<T>, AllocError>
         ensures { IfOk result (λ _. self.new ≡ self.old + 1) }
     {
+        self.desks.reserve(1)?;
         let (desk, helper) = sides(alloc, spare)?;
-        self.desks.push(desk)?;
+        self.desks.push_reserved(desk);
         Ok(helper)
     }
 }
@@ -98,6 +99,7 @@ impl<T: Task> Drop for Crew<T> {
     fn drop(self) {
         let Crew { mut desks } = self;
         stop_all(&mut desks);
+        desks.destroy_empty();
     }
 }
 
@@ -106,7 +108,7 @@ fn stop_all<T: Task>(desks: &mut Vec<Desk<T>>)
     requires { All (λ d. IsRested d.seat.me) desks.old.items }
     ensures { desks.new.items ≡ [] }
 {
-    while let Some(mut desk) = desks.pop() {
+    while let Some(desk) = desks.pop() {
         desk.stop();
     }
 }
