@@ -7,6 +7,9 @@ use Rattle.feed_queue.specs.Orders.{ports_of, IsOrder}
 use Rattle.feed_queue.proofs.Ordering.{each_place_once, no_more_packets, each_port_kept}
 use Rattle.demo_lines.specs.declared.event.Event.{Event}
 use Rattle.demo_lines.specs.declared.event.Event.TheVariants.{Frame, From, End}
+use Rattle.demo_lines.specs.declared.event.EventKind.{EventKind}
+use Rattle.demo_lines.specs.declared.event.EventKind.TheVariants as kinds
+use Rattle.demo_lines.specs.Kinds.{event_of_kind}
 use Rattle.playback.specs.Playbacks.{Course, MayClose, IsReady}
 use Rattle.arena_engine.specs.declared.feeding.Feeding.{Feeding}
 use Rattle.arena_engine.specs.Feedings.{AreSent, arranged}
@@ -40,3 +43,9 @@ pub ready_then : (feeding : Feeding) (e : Event) (old new : Course) (order : Opt
 ready_then feeding Frame old new order puts may = may_close_then feeding old.opened old new order puts may.few may.frames may
 ready_then feeding (From a) old new order puts may = tt
 ready_then feeding End old new order puts may = may_close_then feeding old.opened old new order puts may.few may.frames may
+
+-- whether an event may come doesn't depend on its packet
+pub ready_with : (course : Course) (kind : EventKind) (a b : Arrival) → IsReady course (event_of_kind kind a) → IsReady course (event_of_kind kind b)
+ready_with course kinds.Frame a b ready = ready
+ready_with course kinds.From a b ready = tt
+ready_with course kinds.End a b ready = ready

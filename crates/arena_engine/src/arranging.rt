@@ -1,10 +1,12 @@
 ghost use Rattle.std.specs.Prelude.{length, IfSome, IsSomeAnd, IfOk, OnOk};
+ghost use Rattle.packet_read.specs.declared.arrival.Arrival.{Arrival};
 ghost use Rattle.packet_read.specs.Orders.{AreEachOnce};
+ghost use Rattle.demo_lines.specs.Kinds.{event_of_kind};
 ghost use Rattle.playback.specs.Playbacks.{MayClose, IsReady};
 ghost use Rattle.arena_engine.specs.Games.{IsArranged, PutsOpenInOrder, PutsInOrderFor};
 
 use crate::feeding::Feeding;
-use demo_lines::Event;
+use demo_lines::EventKind;
 use feed_queue::ArrivalOrder;
 use playback::{Host, Playback};
 use std::alloc::AllocError;
@@ -45,14 +47,15 @@ fn arrange_open<R: Threads + Wait + Sync>(
 pub fn arrange_for<R: Threads + Wait + Sync>(
     host: &Host<R>,
     feeding: Feeding,
-    event: &Event,
+    kind: EventKind,
     playback: &mut Playback,
 ) -> Result<Option<ArrivalOrder>, AllocError>
-    requires { IsReady playback.old.course event.now }
-    ensures { IfOk result (PutsInOrderFor feeding event.now playback.old.course playback.new.course) }
+    requires { (a : Arrival) → IsReady playback.old.course (event_of_kind kind a) }
+    ensures { (a : Arrival) →
+        IfOk result (PutsInOrderFor feeding (event_of_kind kind a) playback.old.course playback.new.course) }
 {
-    match event {
-        Event::From(_) => Ok(None),
-        Event::Frame | Event::End => arrange_open(host, feeding, playback),
+    match kind {
+        EventKind::From => Ok(None),
+        EventKind::Frame | EventKind::End => arrange_open(host, feeding, playback),
     }
 }

@@ -41,14 +41,13 @@ fn play_events<'a, R: Threads + Wait + Sync, S: Source, K: Sink, G: Gate>(
         game.old first game.new.last result }
     ensures orders { MayHaveOrder feeding game.old.last.order → MayHaveOrder feeding game.new.last.order }
 {
-    let mut event = first;
+    let (mut kind, mut arrival) = first.into_parts();
     'events: loop {
-        let is_last = is_end(&event);
-        game.take(host, runners, feeding, event, sink)?;
-        if is_last {
+        game.take(host, runners, feeding, kind, &arrival, sink)?;
+        if is_end(kind) {
             return Ok(());
         }
-        event = demo.next(host.alloc, source)?;
+        kind = demo.next_into(host.alloc, source, &mut arrival)?;
     }
 }
 
