@@ -1,9 +1,7 @@
 ghost use Rattle.std.specs.Prelude.{length, IfSome, IsSomeAnd, IfOk, OnOk};
-ghost use Rattle.packet_read.specs.declared.arrival.Arrival.{Arrival};
 ghost use Rattle.packet_read.specs.Orders.{AreEachOnce};
-ghost use Rattle.demo_lines.specs.Kinds.{event_of_kind};
-ghost use Rattle.playback.specs.Playbacks.{MayClose, IsReady};
-ghost use Rattle.arena_engine.specs.Games.{IsArranged, PutsOpenInOrder, PutsInOrderFor};
+ghost use Rattle.playback.specs.Playbacks.{MayClose};
+ghost use Rattle.arena_engine.specs.Games.{IsArranged, IsReadyFor, PutsOpenInOrder, PutsInOrderFor};
 
 use crate::feeding::Feeding;
 use demo_lines::EventKind;
@@ -42,17 +40,16 @@ fn arrange_open<R: Threads + Wait + Sync>(
     Ok(order)
 }
 
-/// Puts the packets of the frame that the event closes, if it closes one, into the order in which they arrive, and gives
-/// this order.
+/// Puts the packets of the frame that an event of this kind closes, if it closes one, into the order in which they
+/// arrive, and gives this order.
 pub fn arrange_for<R: Threads + Wait + Sync>(
     host: &Host<R>,
     feeding: Feeding,
     kind: EventKind,
     playback: &mut Playback,
 ) -> Result<Option<ArrivalOrder>, AllocError>
-    requires { (a : Arrival) → IsReady playback.old.course (event_of_kind kind a) }
-    ensures { (a : Arrival) →
-        IfOk result (PutsInOrderFor feeding (event_of_kind kind a) playback.old.course playback.new.course) }
+    requires { IsReadyFor playback.old.course kind }
+    ensures { IfOk result (PutsInOrderFor feeding kind playback.old.course playback.new.course) }
 {
     match kind {
         EventKind::From => Ok(None),
