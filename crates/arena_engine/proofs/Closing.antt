@@ -5,8 +5,9 @@ use Rattle.packet_read.specs.declared.arrival.Arrival.{Arrival}
 use Rattle.plain_server.specs.Frames.{received_in}
 use Rattle.frame_phases.specs.declared.frame_out.FrameOut.{FrameOut}
 use Rattle.frame_phases.specs.Servers.{ServerView}
-use Rattle.demo_lines.specs.declared.event.Event.{Event}
-use Rattle.demo_lines.specs.declared.event.Event.TheVariants.{Frame, From, End}
+use Rattle.demo_lines.specs.declared.event.EventKind.{EventKind}
+use Rattle.demo_lines.specs.declared.event.EventKind.TheVariants as kinds
+use Rattle.demo_lines.specs.Kinds.{event_of_kind}
 use Rattle.out_text.specs.OutLines.{OutLine, EndLine}
 use Rattle.out_text.specs.FrameLines.{given_lines, lines_with}
 use Rattle.out_text.proofs.Players.{given-is}
@@ -59,11 +60,11 @@ last-is order None before last order_is journal_is = λ i. record { order = orde
 last-is order (Some j) before last order_is journal_is = λ i. record { order = order_is i; journal = journal_is i }
 
 -- the game went on, and P of the lines that were printed
-pub plays : (feeding : Feeding) (workers : ℕ) (old : GameView) (course : Course) (new : PlaybackView) (last : Last) (e : Event) (order : Option (List ℕ)) (journal : Option (List Entry)) (ends : Bool) (P : List OutLine → Type 0)
-    → PutsInOrderFor feeding e old.course course order → GoesOn workers course new.course e journal → IsGivenIf course.server course.opened journal new.out → ArePacketsIf course.opened journal new.closed
-    → last.order ≡ newest_order journal order old.last.order → last.journal ≡ newest_journal journal old.last.journal → ends ≡ is_end e → P (due_lines ends order journal new)
-    → Plays feeding workers old (record { course = new.course; last = last }) e P
-plays feeding workers old course new last Frame order journal ends P puts goes given kept order_is journal_is ends_is holds =
+pub plays : (feeding : Feeding) (workers : ℕ) (old : GameView) (course : Course) (new : PlaybackView) (last : Last) (kind : EventKind) (a : Arrival) (order : Option (List ℕ)) (journal : Option (List Entry)) (ends : Bool) (P : List OutLine → Type 0)
+    → PutsInOrderFor feeding kind old.course course order → GoesOn workers course new.course (event_of_kind kind a) journal → IsGivenIf course.server course.opened journal new.out → ArePacketsIf course.opened journal new.closed
+    → last.order ≡ newest_order journal order old.last.order → last.journal ≡ newest_journal journal old.last.journal → ends ≡ is_end (event_of_kind kind a) → P (due_lines ends order journal new)
+    → Plays feeding workers old (record { course = new.course; last = last }) (event_of_kind kind a) P
+plays feeding workers old course new last kinds.Frame a order journal ends P puts goes given kept order_is journal_is ends_is holds =
     let c = closed_in_order feeding workers old.course.opened old.course course new.closed order new.course.server journal new.out puts refl goes.closes given kept in
     let same : due_lines ends order journal new ≡ closing_lines old.course.server old.course.opened (closing_with order journal) =
     ap (λ (b : Bool). due_lines b order journal new) ends_is ∙ append-nil (closed_lines order journal new.closed new.out) ∙ c.lines in
@@ -72,7 +73,7 @@ plays feeding workers old course new last Frame order journal ends P puts goes g
       advances = record { goes = record { closes = c.closes; opened_is = goes.opened_is }; last_is = last-is order journal old.last last order_is journal_is };
       lines = subst P same holds;
     }
-plays feeding workers old course new last (From a) order journal ends P puts goes given kept order_is journal_is ends_is holds =
+plays feeding workers old course new last kinds.From a order journal ends P puts goes given kept order_is journal_is ends_is holds =
     let none = goes.none_closed in
     let same : due_lines ends order journal new ≡ [] = ap (λ (b : Bool). due_lines b order journal new) ends_is ∙ ap (λ (j : Option (List Entry)). closed_lines order j new.closed new.out ++ []) none in
     record {
@@ -87,7 +88,7 @@ plays feeding workers old course new last (From a) order journal ends P puts goe
       };
       lines = subst P same holds;
     }
-plays feeding workers old course new last End order journal ends P puts goes given kept order_is journal_is ends_is holds =
+plays feeding workers old course new last kinds.End a order journal ends P puts goes given kept order_is journal_is ends_is holds =
     let c = closed_in_order feeding workers old.course.opened old.course course new.closed order new.course.server journal new.out puts refl goes.closes given kept in
     let same : due_lines ends order journal new ≡ closing_lines old.course.server old.course.opened (closing_with order journal) ++ EndLine new.course.server.frames ∷ [] =
     ap (λ (b : Bool). due_lines b order journal new) ends_is ∙ ap (λ (ls : List OutLine). ls ++ EndLine new.course.server.frames ∷ []) c.lines in

@@ -65,7 +65,7 @@ module _ {S K : Type 0} (s : sources.Ghosts S) (k : sinks.Ghosts K) (limit : ℕ
         by (inr status) = record {
           known = omega (arith, status);
           done = λ st. absurd (omega (arith, status, st));
-          read = λ st. absurd (omega (arith, status, st));
+          read = λ st. found.read;
           wrong = λ st. absurd (omega (arith, status, st));
           wrong_read = λ st. absurd (omega (arith, status, st));
           refused = λ st. absurd (omega (arith, status, st));

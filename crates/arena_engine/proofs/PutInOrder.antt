@@ -5,12 +5,13 @@ use Rattle.packet_read.specs.declared.arrival.Arrival.{Arrival}
 use Rattle.packet_read.specs.Orders.{AreEachOnce}
 use Rattle.feed_queue.specs.Orders.{ports_of, IsOrder}
 use Rattle.feed_queue.proofs.Ordering.{each_place_once, no_more_packets, each_port_kept}
-use Rattle.demo_lines.specs.declared.event.Event.{Event}
-use Rattle.demo_lines.specs.declared.event.Event.TheVariants.{Frame, From, End}
+use Rattle.demo_lines.specs.declared.event.EventKind.{EventKind}
+use Rattle.demo_lines.specs.declared.event.EventKind.TheVariants as kinds
+use Rattle.demo_lines.specs.Kinds.{event_of_kind}
 use Rattle.playback.specs.Playbacks.{Course, MayClose, IsReady}
 use Rattle.arena_engine.specs.declared.feeding.Feeding.{Feeding}
 use Rattle.arena_engine.specs.Feedings.{AreSent, arranged}
-use Rattle.arena_engine.specs.Games.{PutsOpenInOrder, PutsInOrderFor}
+use Rattle.arena_engine.specs.Games.{IsReadyFor, PutsOpenInOrder, PutsInOrderFor}
 
 -- what two client threads hand over is an order in which they can send the packets
 pub threads_send : (sent : List Arrival) (order : List ℕ) → IsOrder (ports_of sent) order → AreSent sent order
@@ -35,8 +36,14 @@ may_close_then feeding (Some arrivals) old new order puts few frames may =
     let fewer : length (arranged order arrivals) ≤ 512 = let no_more = puts.few in omega (arith, no_more, few) in
     subst MayClose (sym puts.course) (record { few = fewer; frames = frames })
 
+-- whether an event may come doesn't depend on its packet
+pub ready_for : (course : Course) (kind : EventKind) (a : Arrival) → IsReady course (event_of_kind kind a) → IsReadyFor course kind
+ready_for course kinds.Frame a may = may
+ready_for course kinds.From a may = tt
+ready_for course kinds.End a may = may
+
 -- the event may still come
-pub ready_then : (feeding : Feeding) (e : Event) (old new : Course) (order : Option (List ℕ)) → PutsInOrderFor feeding e old new order → IsReady old e → IsReady new e
-ready_then feeding Frame old new order puts may = may_close_then feeding old.opened old new order puts may.few may.frames may
-ready_then feeding (From a) old new order puts may = tt
-ready_then feeding End old new order puts may = may_close_then feeding old.opened old new order puts may.few may.frames may
+pub ready_then : (feeding : Feeding) (kind : EventKind) (a : Arrival) (old new : Course) (order : Option (List ℕ)) → PutsInOrderFor feeding kind old new order → IsReady old (event_of_kind kind a) → IsReady new (event_of_kind kind a)
+ready_then feeding kinds.Frame a old new order puts may = may_close_then feeding old.opened old new order puts may.few may.frames may
+ready_then feeding kinds.From a old new order puts may = tt
+ready_then feeding kinds.End a old new order puts may = may_close_then feeding old.opened old new order puts may.few may.frames may

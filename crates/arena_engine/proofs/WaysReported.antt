@@ -166,7 +166,7 @@ module _ {S K : Type 0} (s : sources.Ghosts S) (k : sinks.Ghosts K) (target : 鈩
       done = 位 is. absurd (omega (arith, is, status));
       no_spawn = 位 is fault_is. absurd (omega (arith, is, status));
       no_walk = 位 is fault_is. absurd (omega (arith, is, status));
-      read = 位 is. absurd (omega (arith, is, status));
+      read = 位 is. given.read;
       refused = 位 is. absurd (omega (arith, is, status));
       refused_read = 位 is. absurd (omega (arith, is, status));
       cut = 位 is. of-map (s.left source) m _ given.faultless given.map_is cuts.written;

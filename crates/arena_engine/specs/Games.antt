@@ -1,5 +1,5 @@
 -- The game of a recording: what an event closes, and how the game goes on.
-use Rattle.std.specs.Prelude.{◌≡◌, ℕ, ◌≤◌, Bool, true, false, List, [], ◌∷◌, ◌++◌, length, Option, Some, None, option_map}
+use Rattle.std.specs.Prelude.{◌≡◌, ℕ, ◌≤◌, Bool, true, false, List, [], ◌∷◌, ◌++◌, length, Option, Some, None, option_map, ⊤}
 use Rattle.entity_recs.specs.declared.effect.Entry.{Entry}
 use Rattle.arena_map.specs.Maps.{MapView}
 use Rattle.packet_read.specs.declared.arrival.Arrival.{Arrival}
@@ -9,10 +9,12 @@ use Rattle.frame_phases.specs.declared.frame_out.FrameOut.{FrameOut}
 use Rattle.frame_phases.specs.Servers.{ServerView}
 use Rattle.demo_lines.specs.declared.event.Event.{Event}
 use Rattle.demo_lines.specs.declared.event.Event.TheVariants.{Frame, From, End}
+use Rattle.demo_lines.specs.declared.event.EventKind.{EventKind}
+use Rattle.demo_lines.specs.declared.event.EventKind.TheVariants as kinds
 use Rattle.out_text.specs.OutLines.{OutLine, EndLine}
 use Rattle.out_text.specs.FrameLines.{given_lines, lines_with}
 use Rattle.frame_phases.specs.FramesRun.{RunsFrame}
-use Rattle.playback.specs.Playbacks.{Course, PlaybackView, new_course}
+use Rattle.playback.specs.Playbacks.{Course, PlaybackView, MayClose, new_course}
 use Rattle.arena_engine.specs.declared.feeding.Feeding.{Feeding}
 use Rattle.arena_engine.specs.Feedings.{Last, no_last, arranged, IsOrderOf, with_packets}
 
@@ -137,6 +139,12 @@ pub record Plays (feeding : Feeding) (workers : ℕ) (old new : GameView) (e : E
 
 -- ---- how a frame's packets are put in order before it is closed
 
+-- an event of this kind may come, whatever its packet
+abbrev pub IsReadyFor : Course → EventKind → Type 0
+IsReadyFor course kinds.Frame = MayClose course
+IsReadyFor course kinds.From = ⊤
+IsReadyFor course kinds.End = MayClose course
+
 -- they were put into this order, if there is one
 abbrev pub IsArranged : Option (List ℕ) → Course → Course → Type 0
 IsArranged None old new = new ≡ old
@@ -155,8 +163,8 @@ abbrev pub PutsOpenInOrder : Feeding → Option (List Arrival) → Course → Co
 PutsOpenInOrder feeding None old new order = new ≡ old
 PutsOpenInOrder feeding (Some arrivals) old new order = PutsInOrder feeding arrivals old new order
 
--- they were, where the event closes the frame
-abbrev pub PutsInOrderFor : Feeding → Event → Course → Course → Option (List ℕ) → Type 0
-PutsInOrderFor feeding Frame old new order = PutsOpenInOrder feeding old.opened old new order
-PutsInOrderFor feeding (From a) old new order = new ≡ old
-PutsInOrderFor feeding End old new order = PutsOpenInOrder feeding old.opened old new order
+-- they were, where an event of this kind closes the frame
+abbrev pub PutsInOrderFor : Feeding → EventKind → Course → Course → Option (List ℕ) → Type 0
+PutsInOrderFor feeding kinds.Frame old new order = PutsOpenInOrder feeding old.opened old new order
+PutsInOrderFor feeding kinds.From old new order = new ≡ old
+PutsInOrderFor feeding kinds.End old new order = PutsOpenInOrder feeding old.opened old new order

@@ -73,7 +73,7 @@ pub record IsJudgedBy {S K : Type 0} (s : sources.Ghosts S) (k : sinks.Ghosts K)
   -- what follows is right, and the line that says so was written
   pub done : r.status ≡ 0 → FindsRight Judged (s.left source) (Appends (k.taken sink) (k.taken sink'))
   -- the recording and what is right were read, and no more than the last read had to give
-  pub read : r.status ≡ 0 → ReadsRight
+  pub read : (r.status ≡ 0) ⊎ (r.status ≡ 4) → ReadsRight
   -- it is wrong, and the report has the first line of the first wrong piece
   pub wrong : r.status ≡ 6 → IfSome (s.left source) (Judged (Wrong r.line))
   -- the recording was read, and as many lines as what is right may begin with, and then one line at most: no more than

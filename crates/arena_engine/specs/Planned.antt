@@ -73,8 +73,8 @@ pub record IsPlanned {S K : Type 0} (s : sources.Ghosts S) (k : sinks.Ghosts K) 
   pub no_walk : r.status ≡ 7 → r.fault ≡ 2 → IfSome (s.left source) (λ bytes. HasMap bytes (λ m.
       Writes (k.taken sink) (k.taken sink') (ShowsNoWay m target)))
   -- it was read to its line `end`, and no more than the last read had to give
-  pub read : (r.status ≡ 0) ⊎ (r.status ≡ 7) → ReadsToEnd source source' (s.last source') (s.ended source' ≡ s.ended source)
-      (s.ended source' ≡ true) (s.left source) (s.left source')
+  pub read : (r.status ≡ 0) ⊎ (r.status ≡ 4) ⊎ (r.status ≡ 7) → ReadsToEnd source source' (s.last source')
+      (s.ended source' ≡ s.ended source) (s.ended source' ≡ true) (s.left source) (s.left source')
   -- it has a fault, and the report has that line and its fault
   pub refused : r.status ≡ 1 → IfSome (s.left source) (λ bytes. fault bytes ≡ Some (refusal_of r))
   -- it was read to the faulty line, and no more than the last read had to give

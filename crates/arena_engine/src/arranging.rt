@@ -1,10 +1,10 @@
 ghost use Rattle.std.specs.Prelude.{length, IfSome, IsSomeAnd, IfOk, OnOk};
 ghost use Rattle.packet_read.specs.Orders.{AreEachOnce};
-ghost use Rattle.playback.specs.Playbacks.{MayClose, IsReady};
-ghost use Rattle.arena_engine.specs.Games.{IsArranged, PutsOpenInOrder, PutsInOrderFor};
+ghost use Rattle.playback.specs.Playbacks.{MayClose};
+ghost use Rattle.arena_engine.specs.Games.{IsArranged, IsReadyFor, PutsOpenInOrder, PutsInOrderFor};
 
 use crate::feeding::Feeding;
-use demo_lines::Event;
+use demo_lines::EventKind;
 use feed_queue::ArrivalOrder;
 use playback::{Host, Playback};
 use std::alloc::AllocError;
@@ -40,19 +40,19 @@ fn arrange_open<R: Threads + Wait + Sync>(
     Ok(order)
 }
 
-/// Puts the packets of the frame that the event closes, if it closes one, into the order in which they arrive, and gives
-/// this order.
+/// Puts the packets of the frame that an event of this kind closes, if it closes one, into the order in which they
+/// arrive, and gives this order.
 pub fn arrange_for<R: Threads + Wait + Sync>(
     host: &Host<R>,
     feeding: Feeding,
-    event: &Event,
+    kind: EventKind,
     playback: &mut Playback,
 ) -> Result<Option<ArrivalOrder>, AllocError>
-    requires { IsReady playback.old.course event.now }
-    ensures { IfOk result (PutsInOrderFor feeding event.now playback.old.course playback.new.course) }
+    requires { IsReadyFor playback.old.course kind }
+    ensures { IfOk result (PutsInOrderFor feeding kind playback.old.course playback.new.course) }
 {
-    match event {
-        Event::From(_) => Ok(None),
-        Event::Frame | Event::End => arrange_open(host, feeding, playback),
+    match kind {
+        EventKind::From => Ok(None),
+        EventKind::Frame | EventKind::End => arrange_open(host, feeding, playback),
     }
 }

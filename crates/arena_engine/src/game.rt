@@ -1,4 +1,6 @@
 ghost use Rattle.std.specs.Prelude.{◌≡◌};
+ghost use Rattle.packet_read.specs.declared.arrival.Arrival as specs;
+ghost use Rattle.demo_lines.specs.Kinds.{event_of_kind};
 ghost use Rattle.playback.specs.Playbacks.{entries_if};
 ghost use Rattle.arena_engine.specs.Games as games;
 
@@ -7,12 +9,13 @@ use crate::feeding::Feeding;
 use crate::printing::print_event;
 use crate::stop::Stop;
 use arena_actions::MapAction;
-use demo_lines::Event;
+use demo_lines::EventKind;
 use edge_io::Sink;
 use feed_queue::ArrivalOrder;
 use move_journal::Journal;
 use move_phase::Runners;
 use out_text::Printer;
+use packet_read::Arrival;
 use playback::{Host, Playback};
 use shared_moves::Gate;
 use std::alloc::{AllocError, Global};
@@ -47,13 +50,13 @@ impl<'a> Model for Game<'a> {
     ghost invariant = { λ g. g.printer ≡ [] };
 }
 
-/// Whether the event is the recording's end.
-pub fn is_end(event: &Event) -> bool
-    ensures { result ≡ games.is_end event.now }
+/// Whether an event of this kind is the recording's end.
+pub fn is_end(kind: EventKind) -> bool
+    ensures { (a : specs.Arrival) → result ≡ games.is_end (event_of_kind kind a) }
 {
-    match event {
-        Event::End => true,
-        Event::Frame | Event::From(_) => false,
+    match kind {
+        EventKind::End => true,
+        EventKind::Frame | EventKind::From => false,
     }
 }
 
@@ -85,6 +88,7 @@ impl<'a> Game<'a> {
     ghost use Rattle.std.specs.Prelude.{◌≡◌, ◌≤◌, [], length, IfOk, OnOk, IfErr};
     ghost use Rattle.arena_map.specs.Maps.{IsMap};
     ghost use Rattle.arena_actions.specs.MapActions.{map_in, IsOfItsMap};
+    ghost use Rattle.demo_lines.specs.Kinds.{event_of_kind};
     ghost use Rattle.out_text.specs.OutLines.{text_of};
     ghost use Rattle.out_text.specs.Printers.{Prints, FailsIn};
     ghost use Rattle.playback.specs.Playbacks.{entries_if, IsReady};
@@ -106,31 +110,33 @@ impl<'a> Game<'a> {
         })
     }
 
-    /// Takes an event, and writes the lines that it closes. Memory is refused before anything is written only.
+    /// Takes an event of this kind, whose packet, where it has one, is this one, and writes the lines that it closes. Memory
+    /// is refused before anything is written only.
     pub fn take<R: Threads + Wait + Sync, K: Sink, G: Gate>(
         &mut self,
         host: &Host<R>,
         runners: &mut Runners<'a, G>,
         feeding: Feeding,
-        event: Event,
+        kind: EventKind,
+        arrival: &Arrival,
         sink: &mut K,
     ) -> Result<(), Stop>
-        requires { IsReady self.old.course event }
-        ensures next { OnOk result (Plays feeding host.now.workers self.old self.new event (λ lines.
+        requires { IsReady self.old.course (event_of_kind kind arrival.now) }
+        ensures next { OnOk result (Plays feeding host.now.workers self.old self.new (event_of_kind kind arrival.now) (λ lines.
             Prints K.taken K.faults K.room sink.old sink.new [] [] (text_of lines))) }
         ensures write_fault { IfErr result (λ stop. OnWriteFault stop
-            (Plays feeding host.now.workers self.old self.new event (λ lines.
+            (Plays feeding host.now.workers self.old self.new (event_of_kind kind arrival.now) (λ lines.
             FailsIn K.taken K.faults sink.old sink.new (text_of lines)))) }
         ensures sure { IfErr result (λ stop. OnWriteFault stop
-            (Plays feeding host.now.workers self.old self.new event (λ lines. length (text_of lines) ≤ K.room sink.old → ⊥))) }
+            (Plays feeding host.now.workers self.old self.new (event_of_kind kind arrival.now) (λ lines. length (text_of lines) ≤ K.room sink.old → ⊥))) }
         ensures memory { IfErr result (λ stop. OnMemory stop (sink.new ≡ sink.old)) }
         ensures kept { IfErr result (λ stop. OnMemory stop (self.new.last ≡ self.old.last)) }
         ensures stops { IfErr result IsGameStop }
         ensures later { K.faults sink.old ≤ K.faults sink.new }
     {
-        let ends = is_end(&event);
-        let order = arrange_for(host, feeding, &event, &mut self.playback)?;
-        let closed = self.playback.take(host, runners, event)?;
+        let ends = is_end(kind);
+        let order = arrange_for(host, feeding, kind, &mut self.playback)?;
+        let closed = self.playback.take_kind(host, runners, kind, arrival)?;
         let printed = print_event(
             &closed,
             &order,

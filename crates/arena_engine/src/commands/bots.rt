@@ -1,15 +1,15 @@
 ghost use Rattle.std.specs.Prelude.{◌≡◌, None, IfOk, IfErr};
 ghost use Rattle.arena_engine.specs.Endings.{Ends};
+ghost use Rattle.arena_engine.specs.Games as games;
 ghost use Rattle.arena_engine.specs.MapReads.{GivesMap, GivesStop, WritesWays, WritesStop};
 ghost use Rattle.arena_engine.specs.Planned.{IsPlanned};
 
-use crate::game::is_end;
 use crate::report::Report;
 use crate::status::Status;
 use crate::stop::Stop;
 use arena_map::ArenaMap;
 use bot_ways::{PlanStop, plan_way, write_least, write_plan};
-use demo_lines::{DemoReader, DemoStop};
+use demo_lines::{DemoReader, DemoStop, Event};
 use edge_io::{Sink, Source};
 use move_journal::JournalList;
 use std::alloc::Global;
@@ -23,6 +23,16 @@ pub enum Ways {
     NoSpawn,
     /// No walk leads there.
     NoWalk,
+}
+
+/// Whether the event is the recording's end.
+fn is_end(event: &Event) -> bool
+    ensures { result ≡ games.is_end event.now }
+{
+    match event {
+        Event::End => true,
+        Event::Frame | Event::From(_) => false,
+    }
 }
 
 /// Reads a recording to its line `end`, and gives its map.
