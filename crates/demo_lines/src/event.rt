@@ -15,7 +15,7 @@ pub enum Event {
     End,
 }
 
-// A packet is 272 bytes: who lends one to the reader is handed the kind alone. The program takes whole events.
+// A packet is 272 bytes: who lends one to the reader is handed the kind alone, as the loop that plays a recording.
 /// What an [`Event`] is, where its packet is lent beside it.
 #[derive(Clone, Copy, Debug, PartialEq, Eq)]
 pub enum EventKind {

@@ -15,7 +15,7 @@ use std::mem;
 use std::sync::Wait;
 use std::thread::Threads;
 
-// An event goes to a server at one place, `take`: a recording and a generator are two ways to get events, printing
+// An event goes to a server at one place, `take_kind`: a recording and a generator are two ways to get events, printing
 // and totals two things done with a closed frame.
 /// A server, what its last frame gave out but for the journal, the packets of the frame that is open, and those of the
 /// last one that was closed.
