@@ -15,7 +15,7 @@ use Rattle.frame_phases.specs.FramesRun.{IsGiven, shown_by}
 use Rattle.playback.specs.Playbacks.{Course, PlaybackView, IsGivenIf, ArePacketsIf, Closes, GoesOn}
 use Rattle.arena_engine.specs.declared.feeding.Feeding.{Feeding}
 use Rattle.arena_engine.specs.Feedings.{Last, arranged, with_packets}
-use Rattle.arena_engine.specs.Games.{GameView, Plays, closing_with, ClosesFed, PutsOpenInOrder, PutsInOrderFor, closed_lines, closing_lines, event_lines, due_lines, is_end, newest, newest_journal, newest_order}
+use Rattle.arena_engine.specs.Games.{GameView, Plays, closing_with, ClosesFed, PutsOpenInOrder, PutsInOrderFor, closed_lines, closing_lines, due_lines, is_end, newest, newest_journal, newest_order}
 
 -- what a frame gave out are the parts of its lines
 lines-are : (t : ServerView) (arrivals : List Arrival) (journal : List Entry) (out : FrameOut) → IsGiven t arrivals journal out

@@ -1,5 +1,5 @@
 -- How the playing of a recording ends, and what was written then.
-use Rattle.std.proofs.Common.{◌≡◌, ℕ, true, List, [], ◌∷◌, ◌++◌, length, Option, Some, None, IfSome, refl, sym, ap, ◌∙◌, subst, append_assoc, append-nil}
+use Rattle.std.proofs.Common.{◌≡◌, ℕ, true, List, [], ◌∷◌, ◌++◌, Option, Some, None, IfSome, refl, sym, ap, ◌∙◌, subst, append_assoc, append-nil}
 use Rattle.std.specs.List.{AllByRecursion}
 use Rattle.std.specs.Io.KnownBytes.{Appends, Consumes}
 use Rattle.std.proofs.lemmas.Grind.{flat_map-append}
@@ -12,13 +12,13 @@ use Rattle.demo_lines.specs.Recording.{next, events_of_line, after, events_of}
 use Rattle.edge_io.specs.Lines.{HasNoLineFeed}
 use Rattle.edge_io.specs.WholeLines.{unlines}
 use Rattle.demo_lines.specs.declared.line_refusal.LineRefusal.{LineRefusal}
-use Rattle.demo_lines.specs.Bytes.{lines_of, events, fault}
+use Rattle.demo_lines.specs.Bytes.{lines_of}
 use Rattle.demo_lines.specs.Reads.{Reads, ReadsFront, EndsAt}
 use Rattle.demo_lines.proofs.Machines.{run_of-append, outputs_of-append}
 use Rattle.demo_lines.proofs.Parts.{lines_of-unlines}
 use Rattle.demo_lines.proofs.Joins.{whole_text}
 use Rattle.edge_io.proofs.Feeds.{each_of_both}
-use Rattle.out_text.specs.Collecting.{frames_of_events, frames_of}
+use Rattle.out_text.specs.Collecting.{frames_of_events}
 use Rattle.packet_read.specs.declared.arrival.Arrival.{Arrival}
 use Rattle.arena_engine.specs.declared.feeding.Feeding.{Feeding}
 use Rattle.arena_engine.specs.Feedings.{Last, no_last, AreFed, IsLastOf, fed_text}
@@ -28,7 +28,7 @@ use Rattle.demo_lines.proofs.MapGiven.{after-whole, after-kept}
 use Rattle.demo_lines.proofs.Continuing.{cut_after_lines, IsCutAt}
 use Rattle.demo_lines.proofs.Counting.{going-before}
 use Rattle.out_text.proofs.Fronts.{AreRun}
-use Rattle.arena_engine.proofs.FedTexts.{HoldAtFirst, HaveRun, some_right, all_right, refused_right}
+use Rattle.arena_engine.proofs.FedTexts.{HoldAtFirst, some_right, all_right, refused_right}
 use Rattle.arena_engine.proofs.Continuing.{continues, continues_lines, map_of-whole, frames_of-all, goes_on_frames}
 
 -- ---- before the first event

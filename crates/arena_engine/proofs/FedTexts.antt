@@ -1,12 +1,11 @@
 -- What is right to write of frames that were run, whichever way their packets reached the server.
-use Rattle.std.proofs.Common.{◌≡◌, ℕ, ◌+◌, ◌<◌, ◌≤◌, List, [], ◌∷◌, ◌++◌, length, take, Option, Some, None, option_map, IfSome, ◌⊎◌, inl, inr, refl, sym, ap, ◌∙◌, subst, append-nil, arith, length-append}
+use Rattle.std.proofs.Common.{◌≡◌, ℕ, ◌+◌, ◌<◌, ◌≤◌, List, [], ◌∷◌, ◌++◌, length, take, Option, Some, None, option_map, IfSome, inl, inr, refl, sym, ap, ◌∙◌, subst, arith, length-append}
 use Rattle.entity_recs.specs.declared.effect.Entry.{Entry}
 use Rattle.arena_map.specs.Maps.{MapView}
 use Rattle.packet_read.specs.declared.arrival.Arrival.{Arrival}
 use Rattle.packet_read.specs.Orders.{in_order, AreEachOnce}
 use Rattle.plain_server.specs.RecordsById.{opening}
 use Rattle.plain_server.specs.Frames.{received_in, state_played}
-use Rattle.plain_server.proofs.Turns.{right_count}
 use Rattle.demo_lines.specs.declared.line_refusal.LineRefusal.{LineRefusal}
 use Rattle.demo_lines.specs.Bytes.{events, fault}
 use Rattle.out_text.specs.OutLines.{OutLine, EndLine, text_of}
@@ -21,7 +20,7 @@ use Rattle.out_text.proofs.Outputs.{nothing_reported}
 use Rattle.out_text.proofs.Runs.{run_lines-append, run_lines-push, text_of-append}
 use Rattle.out_text.proofs.Fronts.{AreRun, IsPlayed, lines_of, text_with, whole_text, no_front, last_of-push, front_has_last, out_has_last, out_text-is, right_in, in_order_in, is_front, is_all_frames, is_output, frame_cut, end_cut, last_cut}
 use Rattle.out_text.proofs.FedRuns.{length-feeds, feeds-push, feeds-append, feeds-own, fed_lines-append, fed_lines-push}
-use Rattle.out_text.proofs.FedFronts.{fed_lines_of, fed_text_with, fed_whole, no_fed_front, no_fed_last, fed_front_has_last, fed_out_has_last, fed_output-is, fed_right, fed_in_turn, is_fed_front, is_fed_frames, is_fed_output, fed_frame_cut, fed_end_cut, fed_last_cut}
+use Rattle.out_text.proofs.FedFronts.{fed_lines_of, fed_text_with, no_fed_front, no_fed_last, fed_front_has_last, fed_out_has_last, fed_output-is, fed_right, fed_in_turn, is_fed_front, is_fed_frames, is_fed_output, fed_frame_cut, fed_end_cut, fed_last_cut}
 use Rattle.arena_engine.specs.declared.feeding.Feeding.{Feeding}
 use Rattle.arena_engine.specs.declared.feeding.Feeding.TheVariants.{Recorded, Threaded}
 use Rattle.arena_engine.specs.Feedings.{Last, no_last, AreFed, IsLastOf, IsOrderOf, arranged, with_packets, fed_lines, fed_text}

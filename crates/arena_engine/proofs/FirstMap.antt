@@ -1,20 +1,18 @@
 -- Reading a recording to its first event, for its map alone.
-use Rattle.std.proofs.Common.{◌≡◌, ℕ, true, false, List, [], ◌∷◌, ◌++◌, length, ◌⊎◌, inl, inr, Option, Some, IfSome, IsSome, refl, sym, ap, ◌∙◌, subst}
+use Rattle.std.proofs.Common.{◌≡◌, true, false, List, [], ◌∷◌, ◌++◌, length, ◌⊎◌, inl, inr, Some, IfSome, IsSome, refl, sym, ap, ◌∙◌, subst}
 use Rattle.std.proofs.KnownBytes.{prepend_known-nil}
 use Rattle.edge_io.specs.declared.source.Source as sources
 use Rattle.edge_io.specs.Lines.{ahead, HasNotReadAhead}
 use Rattle.arena_map.specs.Maps.{MapView}
 use Rattle.demo_lines.specs.declared.event.Event.{Event}
 use Rattle.demo_lines.specs.declared.event.Event.TheVariants.{Frame, From, End}
-use Rattle.demo_lines.specs.declared.line_refusal.LineRefusal.{LineRefusal}
 use Rattle.demo_lines.specs.declared.demo_stop.DemoStop.{DemoStop}
-use Rattle.demo_lines.specs.Known.{Reading, start, is_map_whole, is_over, is_refused}
+use Rattle.demo_lines.specs.Known.{Reading, start, is_map_whole, is_refused}
 use Rattle.demo_lines.specs.Recording.{events_of}
-use Rattle.demo_lines.specs.Bytes.{events, map_of, events_in}
+use Rattle.demo_lines.specs.Bytes.{events_in}
 use Rattle.demo_lines.specs.Outcomes.{GivesEvent, IsStoppedBy, IsRefusedBy}
 use Rattle.demo_lines.specs.Reads.{DemoReaderView, fresh_reader, IsOpen, Reads, EndsAt, TakesCutEnd, stage_after}
 use Rattle.demo_lines.proofs.Walks.{on_refused, whole_after}
-use Rattle.arena_engine.specs.MapReads.{GivesStop}
 use Rattle.arena_engine.specs.Walked.{BeginsWithMap, GivesFirstMap, StopsBefore}
 use Rattle.arena_engine.proofs.Continuing.{continues, map_of-whole}
 use Rattle.arena_engine.proofs.FirstEvent.{none-before}

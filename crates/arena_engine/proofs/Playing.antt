@@ -8,7 +8,6 @@ use Rattle.entity_recs.specs.declared.effect.Entry.{Entry}
 use Rattle.move_journal.specs.Merges.{IsInOrder}
 use Rattle.arena_map.specs.Maps.{MapView, IsMap}
 use Rattle.packet_read.specs.declared.arrival.Arrival.{Arrival}
-use Rattle.client_ports.specs.States.{State}
 use Rattle.plain_server.specs.RecordsById.{opening}
 use Rattle.plain_server.specs.Frames.{received_in, state_played, IsRightAfter, journals_of}
 use Rattle.plain_server.proofs.Frames.{right_in_order, order_in_order}
@@ -20,7 +19,7 @@ use Rattle.demo_lines.specs.declared.event.Event.{Event}
 use Rattle.demo_lines.specs.declared.event.Event.TheVariants.{Frame, From, End}
 use Rattle.demo_lines.specs.Known.{Reading, start, is_map_whole, is_over}
 use Rattle.demo_lines.specs.Recording.{after}
-use Rattle.demo_lines.specs.Bytes.{last_part, lines_of as lines_in, refused_at, refused_where, fault, map_of}
+use Rattle.demo_lines.specs.Bytes.{last_part, lines_of as lines_in, refused_at, refused_where, fault}
 use Rattle.demo_lines.specs.Reads.{Reads, IsTextOf, TakesCutEnd, stage_after}
 use Rattle.demo_lines.proofs.Ends.{after-over, events_of-over}
 use Rattle.demo_lines.proofs.Joins.{Reads-trans}

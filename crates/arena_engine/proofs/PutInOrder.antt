@@ -1,5 +1,5 @@
 -- The packets of the frame that an event closes are put into the order in which they arrive.
-use Rattle.std.proofs.Common.{◌≡◌, ℕ, ◌<◌, ◌≤◌, List, length, Option, Some, None, IfSome, Result, Ok, Err, IfOk, sym, subst, arith}
+use Rattle.std.proofs.Common.{ℕ, ◌<◌, ◌≤◌, List, length, Option, Some, None, IfSome, Result, Ok, Err, IfOk, sym, subst, arith}
 use Rattle.std.proofs.lemmas.List.{length-map}
 use Rattle.packet_read.specs.declared.arrival.Arrival.{Arrival}
 use Rattle.packet_read.specs.Orders.{AreEachOnce}

@@ -26,7 +26,7 @@ use Rattle.arena_engine.specs.Stops.{OnRefused, OnReadFault, OnWriteFault, OnMem
 use Rattle.out_text.specs.Printers.{Prints, FailsIn}
 use Rattle.playback.specs.Playbacks.{IsReady}
 use Rattle.arena_engine.specs.declared.feeding.Feeding.{Feeding}
-use Rattle.arena_engine.specs.Feedings.{Last, no_last, fed_text}
+use Rattle.arena_engine.specs.Feedings.{Last, no_last}
 use Rattle.arena_engine.specs.Texts.{Texts, texts_of}
 use Rattle.arena_engine.specs.Games.{GameView, Closing, new_game, Advances, Plays, event_lines, is_end}
 use Rattle.arena_engine.specs.Progress.{Progress, Runs, ReadsAsNeeded}

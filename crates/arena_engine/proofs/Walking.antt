@@ -1,5 +1,5 @@
 -- What a report says of a recording of players that walk on a map that was read.
-use Rattle.std.proofs.Common.{◌≡◌, ◌≢◌, ℕ, ◌≤◌, ◌⊎◌, inl, inr, List, [], Option, Some, None, Result, Ok, Err, IfSome, length, refl, sym, subst, ap, arith}
+use Rattle.std.proofs.Common.{◌≡◌, ◌≢◌, ℕ, ◌≤◌, inl, inr, List, [], Option, Some, None, Result, Ok, Err, IfSome, length, refl, sym, subst, ap, arith}
 use Rattle.std.specs.Prelude.{IsSomeAnd}
 use Rattle.std.specs.Result.{OnOk}
 use Rattle.std.specs.Io.KnownBytes.{Appends}

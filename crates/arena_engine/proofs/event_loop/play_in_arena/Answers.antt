@@ -1,9 +1,8 @@
-use Rattle.std.proofs.Common.{sym, ap, ◌∙◌, subst, refl}
-use Rattle.arena_map.specs.Maps.{IsMap}
+use Rattle.std.proofs.Common.{sym, ap, subst}
 use Rattle.arena_actions.specs.MapActions.{map_in}
 use Rattle.arena_engine.specs.Progress.{MayGoOn, PlaysOn}
 use Rattle.arena_engine.specs.Feedings.{Last, MayHaveOrder}
-use Rattle.arena_engine.specs.Games.{GameView, new_game}
+use Rattle.arena_engine.specs.Games.{GameView}
 use Rattle.arena_engine.specs.Texts.{texts_of}
 use Rattle.arena_engine.proofs.Ended.{no_memory_at, none_has_order, ends_same}
 use Rattle.arena_engine.proofs.event_loop.play_in_arena.Goals as goal
