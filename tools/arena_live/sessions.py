@@ -110,9 +110,11 @@ class Sessions:
         self._metrics.counts["arena_messages_in_total"] += 1
         self._metrics.counts["arena_bytes_in_total"] += len(data)
         session = self._by_token.get(data[:TOKEN_BYTES])
+        if session is not None and session.address != address:
+            session = None
         if len(data) > MOST_MESSAGE:
-            self._refuse(None, "front-long")
-        elif session is None or session.address != address:
+            self._refuse(session, "front-long")
+        elif session is None:
             self._refuse(None, "front-token")
         else:
             session.heard, session.is_known = now, True
@@ -150,7 +152,8 @@ class Sessions:
             session.send(GOODBYE + why)
 
     def _take_wish(self, session: Session, body: bytes) -> None:
-        if len(body) == 3 and body[:2] == WATCH and body[2] < MOST_PLAYERS:
+        """One that watches chooses a slot. One that plays may not see what another one sees."""
+        if not session.plays and len(body) == 3 and body[:2] == WATCH and body[2] < MOST_PLAYERS:
             session.watched = body[2]
         else:
             self._refuse(session, "front-message")

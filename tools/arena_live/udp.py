@@ -1,10 +1,10 @@
-"""Clients by UDP: a message is a datagram. One that begins with 16 zero bytes asks for a token."""
+"""Clients by UDP: a message is a datagram. One of 16 zero bytes asks for a token."""
 import asyncio
 import socket
 from time import monotonic
 
 from arena_live.metrics import Metrics
-from arena_live.sessions import MOST_MESSAGE, NO_TOKEN, TOKEN_BYTES, Sessions
+from arena_live.sessions import MOST_MESSAGE, NO_TOKEN, Sessions
 
 # What comes while a frame is played waits in the socket; the system gives as much of this as it allows.
 RECEIVE_BUFFER = 1 << 22
@@ -45,7 +45,7 @@ class Udp:
                 return
             except OSError:
                 continue  # A client's socket is gone: it falls silent, and leaves then.
-            if data[:TOKEN_BYTES] == NO_TOKEN:
+            if data == NO_TOKEN:
                 self._sessions.open(address, "udp", lambda message, to=address: self._send(message, to), now)
             else:
                 self._sessions.receive(address, data, now)
