@@ -9,6 +9,7 @@ import sys
 import tempfile
 import time
 
+import arena
 from live import LIVE, MAP, Front, memory_of, want
 
 UPGRADE = "Upgrade: websocket\r\nConnection: Upgrade\r\nSec-WebSocket-Version: 13\r\nSec-WebSocket-Key: AAAAAAAAAAAAAAAAAAAAAA==\r\n"
@@ -117,6 +118,44 @@ def unanswered_hello(front):
         want(b"\x02" in kinds, f"a client that has shown its token gets {kinds}")
 
 
+def told(link, is_wanted, seconds=5):
+    """The first message that is wanted, or None where none comes in this time."""
+    until = time.monotonic() + seconds
+    try:
+        while (left := until - time.monotonic()) > 0:
+            link.settimeout(left)
+            message = link.recv(65_536)
+            if is_wanted(message):
+                return message
+    except OSError:
+        pass
+    return None
+
+
+def odd_messages(front):
+    """A hello has 16 bytes, a message that is too long is told to its sender, and one that plays sees its own place alone."""
+    with socket.socket(socket.AF_INET, socket.SOCK_DGRAM) as link:
+        link.connect(("127.0.0.1", front.udp))
+        link.send(bytes(17))
+        link.send(bytes(300))
+        want(told(link, bool, 1) is None, "a hello with more than 16 bytes is answered")
+        link.send(bytes(16))
+        token = told(link, bool)[1:17]
+        link.send(token + bytes([0, 1, 0]))
+        want(told(link, lambda m: m[:1] == b"\x02" and arena.read_head(m[1:]).slot == 0), "a slot that was chosen isn't seen")
+        link.send(token + arena.join())
+        joined = told(link, lambda m: m[:1] == b"\x03" and json.loads(m[1:])["you"] is not None)
+        slot = json.loads(joined[1:])["you"]
+        link.send(token + bytes([0, 1, 0]))
+        link.send(token + bytes(300))
+        names = set()
+        told(link, lambda m: m[:1] == b"\x03" and names.update(json.loads(m[1:]).get("refused", [])) or len(names) == 2)
+        want(names == {"front-message", "front-long"}, f"one that plays and chooses a slot, and is too long, is told {names}")
+        seen = told(link, lambda m: m[:1] == b"\x02")
+        want(arena.read_head(seen[1:]).slot == slot != 0, "one that plays sees the slot that it chose")
+        link.send(token + arena.leave())
+
+
 def try_hostile(words):
     with tempfile.TemporaryDirectory(prefix="live-") as top:
         hard = resource.getrlimit(resource.RLIMIT_NOFILE)
@@ -131,6 +170,7 @@ def try_hostile(words):
             asyncio.run(floods(front.http))
             held_connections(front)
             unanswered_hello(front)
+            odd_messages(front)
             counts = front.metrics()
             text, status = front.end()
         late = counts["arena_late_frames_total"]
