@@ -52,11 +52,12 @@ def opened(path):
 
 
 def lines_to_end(file):
-    """The lines of a recording up to its `end`."""
+    """The lines of a recording up to its `end`, which gets a line feed where it has none."""
     for line in file:
-        yield line
         if line.rstrip(b"\r\n") == b"end":
+            yield b"end\n"
             return
+        yield line
 
 
 def map_lines(file):
@@ -194,11 +195,13 @@ def pair(path, recording):
     if output is None:
         return {"end": "failed", "said": "there is no output beside it"}
     judge = Judge(path, "check")
+    line, refusals = b"", 0
     with opened(recording) as file:
         for line in lines_to_end(file):
             judge.write(line)
-    with opened(output) as file:
-        refusals = copy_to(judge, file)
+    if line == b"end\n":  # without it the output would be read as lines of the recording
+        with opened(output) as file:
+            refusals = copy_to(judge, file)
     found = verdict(*judge.end())
     if found["end"] == "long" and not is_frame(recording, found["line"]):
         found["end"] = "refused"

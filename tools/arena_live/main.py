@@ -209,7 +209,8 @@ class Live:
         said = "{} frames, {} late, {} joins, {} moves".format(*counts)
         say(f"{said}; milliseconds from when a frame was due until it was sent: {times}")
         judged = asyncio.gather(*self._judging)
-        # From here on Control-C ends the judging.
+        if not judged.done():
+            say("it is judged; Control-C leaves it unjudged")
         for number in (signal.SIGINT, signal.SIGTERM):
             asyncio.get_running_loop().add_signal_handler(number, judged.cancel)
         try:
