@@ -52,12 +52,12 @@ pub fn moves_take_what_is_there()
     ensures { MovesTakeWhatIsThere }
 {}
 
-/// No record gets two new states.
+/// No record gets two new states, where the ids of the records rise.
 pub fn new_states_are_apart()
     ensures { NewStatesAreApart }
 {}
 
-/// The ids in a reply rise.
+/// The ids in a reply rise, where those of the records do.
 pub fn replied_ids_rise()
     ensures { RepliedIdsRise }
 {}
@@ -126,7 +126,8 @@ pub fn movers_stay_free()
     ensures { MoversStayFree }
 {}
 
-/// On each map the ids in a reply rise and are at most 8, and no record gets two new states.
+/// On each map the ids in a reply rise and are at most 8, and no record gets two new states, where the records are within
+/// their bounds and their ids rise.
 pub fn replies_are_short()
     ensures { RepliesAreShort }
 {}

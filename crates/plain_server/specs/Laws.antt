@@ -161,7 +161,7 @@ TakenItemsStayAway =
     → frame ≤ later → later < frame + delay → IsSameEntry frame place later other
 
 -- a frame ends where its moves did. After the moves of a right journal each player with an entry is where the last one
--- reports it, which is what the replies show, and a player without an entry is as the receive pass left it, where players
+-- reports it, and a player without an entry is as the receive pass left it, where players
 -- shoot but for its state. Whatever the journal, the next frame begins with these records: only those whose client leaves
 -- are gone
 pub record FramesEndWithTheirMoves : Type 0 where

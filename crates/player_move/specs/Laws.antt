@@ -50,25 +50,25 @@ plain_slide_of me cmd solids =
 
 -- the square of how far a record has come over the ground
 abbrev pub flat_square_of : Rec → Moved → ℕ
-flat_square_of me box_moved_by = flat_square (minus box_moved_by.origin me.origin)
+flat_square_of me moved = flat_square (minus moved.origin me.origin)
 
 -- the move is this slide
-pub record IsSlide (me : Rec) (slid : Slid) (box_moved_by : Moved) : Type 0 where
-  pub origin : box_moved_by.origin ≡ plus me.origin slid.shift
-  pub vel : box_moved_by.vel ≡ slid.vel
+pub record IsSlide (me : Rec) (slid : Slid) (moved : Moved) : Type 0 where
+  pub origin : moved.origin ≡ plus me.origin slid.shift
+  pub vel : moved.vel ≡ slid.vel
 
 -- the move walks, this slide hits a side, and the move goes strictly farther and ends on the ground, without speed on z
-pub record GoesFarther (me : Rec) (cmd : Intent) (solids : List Bounds) (slid : Slid) (box_moved_by : Moved) : Type 0 where
+pub record GoesFarther (me : Rec) (cmd : Intent) (solids : List Bounds) (slid : Slid) (moved : Moved) : Type 0 where
   pub walks : walks (ground_of (body_of me) solids) cmd ≡ true
   pub side : slid.side ≡ true
-  pub farther : flat_square slid.shift < flat_square_of me box_moved_by
-  pub on_ground : ground_of (body_after me box_moved_by) solids ≡ true
-  pub level : box_moved_by.vel.z ≡ pos 0
+  pub farther : flat_square slid.shift < flat_square_of me moved
+  pub on_ground : ground_of (body_after me moved) solids ≡ true
+  pub level : moved.vel.z ≡ pos 0
 
 -- the move goes no less far over the ground than this slide; it is that slide, or goes farther and ends on the ground
-pub record GoesNoLessFar (me : Rec) (cmd : Intent) (solids : List Bounds) (slid : Slid) (box_moved_by : Moved) : Type 0 where
-  pub no_less_far : flat_square slid.shift ≤ flat_square_of me box_moved_by
-  pub either : IsSlide me slid box_moved_by ⊎ GoesFarther me cmd solids slid box_moved_by
+pub record GoesNoLessFar (me : Rec) (cmd : Intent) (solids : List Bounds) (slid : Slid) (moved : Moved) : Type 0 where
+  pub no_less_far : flat_square slid.shift ≤ flat_square_of me moved
+  pub either : IsSlide me slid moved ⊎ GoesFarther me cmd solids slid moved
 
 -- a move goes no less far over the ground than its plain slide, and where the two differ it ends on the ground
 abbrev pub MoveGoesNoLessFar : Type 0
@@ -108,9 +108,9 @@ stairs_of_move me cmd solids =
     stairs_of (body_of me) (velocity_after on_ground me cmd) cmd.ms solids
 
 -- the move is these stairs
-pub record IsStairs (me : Rec) (stairs : Walked) (box_moved_by : Moved) : Type 0 where
-  pub origin : box_moved_by.origin ≡ plus me.origin stairs.shift
-  pub vel : box_moved_by.vel ≡ stairs.vel
+pub record IsStairs (me : Rec) (stairs : Walked) (moved : Moved) : Type 0 where
+  pub origin : moved.origin ≡ plus me.origin stairs.shift
+  pub vel : moved.vel ≡ stairs.vel
 
 -- on the ground, without a jump, this slide hits a side, and the stairs lead strictly farther, to a place on the ground
 pub record LeadFarther (me : Rec) (cmd : Intent) (solids : List Bounds) (slid : Slid) (stairs : Walked) : Type 0 where
@@ -121,9 +121,9 @@ pub record LeadFarther (me : Rec) (cmd : Intent) (solids : List Bounds) (slid : 
   pub on_ground : ground_of (box_moved_by (body_of me) stairs.shift) solids ≡ true
 
 -- where the stairs lead farther than this slide the move is the stairs, and else it is the slide
-pub record IsTheFarther (me : Rec) (cmd : Intent) (solids : List Bounds) (slid : Slid) (stairs : Walked) (box_moved_by : Moved) : Type 0 where
-  pub taken : LeadFarther me cmd solids slid stairs → IsStairs me stairs box_moved_by
-  pub left : (LeadFarther me cmd solids slid stairs → ⊥) → IsSlide me slid box_moved_by
+pub record IsTheFarther (me : Rec) (cmd : Intent) (solids : List Bounds) (slid : Slid) (stairs : Walked) (moved : Moved) : Type 0 where
+  pub taken : LeadFarther me cmd solids slid stairs → IsStairs me stairs moved
+  pub left : (LeadFarther me cmd solids slid stairs → ⊥) → IsSlide me slid moved
 
 -- a move takes the stairs exactly where they lead farther than its plain slide
 abbrev pub StairsAreTaken : Type 0

@@ -107,7 +107,8 @@ pub fn walkers_are_slowed()
 
 /// A wish leads a player along it to the wish's length, at most 81,920 where the player walks and 7,680 where it jumps or
 /// is in the air, or as near to that as the time allows. The part along the wish comes at most 1 past it, and at most 3
-/// short of it, and the velocity at a right angle to it changes by less than 1.
+/// short of it, and the velocity at a right angle to it changes by less than 1. So where the velocity is at most 471,040 on x
+/// and on y: faster ones may be cut at 512,000.
 pub fn wishes_are_followed()
     ensures { WishesAreFollowed }
 {}

@@ -47,7 +47,7 @@ pub record OpensFrame (c : CheckerView) (line : List ℕ) : Type 0 where
 
 -- the bytes are a recording without a fault that may have no frame, so the lines of a map and the line `end`, which is
 -- that of this number, and then a log with this verdict. A line `frame` among those of the map is one more than there may
--- be, and so has fault 9
+-- be, and so has fault 9, or an earlier one
 pub record IsLogJudged (verdict : Verdict) (bytes : List ℕ) : Type 0 where
   pub accepted : fault_within 0 bytes ≡ None
   pub map : MapView

@@ -55,7 +55,7 @@ fn compare_log<S: Source>(
 
 /// Reads the lines of a map up to its line `end`, and judges the log of a match that follows: frame by frame, with one
 /// frame in memory. The reader is to be a new one of a recording that may have no frame, so a line `frame` before `end`
-/// is refused with fault 9.
+/// is refused, with fault 9 where it has no earlier one.
 ///
 /// [`Verdict::Right`] comes exactly where what follows begins with what `feed` writes for a recording of the map, with
 /// some packets, in the order of its `from` lines, and some order of each frame's moves in which each player's are in the

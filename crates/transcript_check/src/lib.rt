@@ -4,8 +4,10 @@
 pub use auditing::audit;
 pub use checking::check;
 pub use laws::{
-    outputs_are_right, recordings_end_once, right_ones_are_outputs, right_ones_count_their_lines,
-    verdicts_are_on_outputs, verdicts_are_one, verdicts_exclude_each_other,
+    log_verdicts_are_one, outputs_are_right, outputs_are_right_logs, recordings_end_once,
+    right_logs_are_outputs, right_logs_count_their_lines, right_ones_are_outputs,
+    right_ones_count_their_lines, verdicts_are_on_outputs, verdicts_are_one,
+    verdicts_exclude_each_other,
 };
 pub use verdict::Verdict;
 

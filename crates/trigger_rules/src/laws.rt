@@ -46,12 +46,13 @@ pub fn touched_items_are_taken()
     ensures { TouchedItemsAreTaken }
 {}
 
-/// The ids of what a player got rise.
+/// The ids of what a player got rise, where those of the records do.
 pub fn got_ids_rise()
     ensures { GotIdsRise }
 {}
 
-/// A player has the ammunition that it had and 20 for each item of it that it got, up to 100.
+/// Where the ids of the records rise, a player has the ammunition that it had and 20 for each item of it that it got, up to
+/// 100, if it had at most that, and carried 8 gems at most.
 pub fn ammunition_is_counted()
     ensures { AmmunitionIsCounted }
 {}
@@ -123,7 +124,7 @@ pub fn players_stay_on()
     ensures { PlayersStayOn }
 {}
 
-/// No record gets two new states.
+/// No record gets two new states, where the ids of the records rise.
 pub fn states_are_apart()
     ensures { StatesAreApart }
 {}
