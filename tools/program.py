@@ -36,6 +36,12 @@ def misused(text, why):
     sys.exit(2)
 
 
+def unable(why):
+    """Ends a script that can't do what it was called for, though its words are right, with status 2."""
+    print(f"{NAME}: {shown(why)}", file=sys.stderr)
+    sys.exit(2)
+
+
 def lacking(path=PROGRAM):
     """Why the program at this path can't be run, or None."""
     if not os.path.exists(path):
@@ -55,10 +61,11 @@ def begin(text, needs=PROGRAM, wrong=lambda words: None):
         print(text, end="")
         sys.exit(0)
     why = wrong(words)
-    if why is None and needs:
-        why = lacking(needs)
     if why is not None:
         misused(text, why)
+    why = lacking(needs) if needs else None
+    if why is not None:
+        unable(why)
 
 
 def sentence_of(error):
