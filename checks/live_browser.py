@@ -65,6 +65,7 @@ def plays(page, other, want):
     join(other)
     want(text_of(other, "slot") != text_of(page, "slot"), "two pages have one slot")
     predicts(page, want)
+    cuts(page, want)
     page.find_element(By.ID, "join").click()
     wait_until(lambda: text_of(page, "state") == "watching", "the page watches after it left")
     are_silent((page, other), want)
@@ -171,6 +172,21 @@ def held(page, key, seconds):
     time.sleep(seconds)
     ActionChains(page).key_up(key).perform()
     time.sleep(0.3)
+
+
+def cuts(page, want):
+    """Of a map with storeys what stands above is left out, of another one nothing."""
+    storeys = "arena -65536 -65536 0 65536 65536 65536\nblock -65536 -65536 20000 65536 65536 24576\nspawn 0 0 6144\nspawn 0 0 30720"
+    got = page.execute_async_script(
+        "const [text, done] = arguments;"
+        "Promise.all([import('/page.js'), fetch('map')]).then(async ([{ readMap, hasStoreys, heightOfSpawns }, flat]) => {"
+        "  const map = readMap(text);"
+        "  done([hasStoreys(map), heightOfSpawns(map), hasStoreys(readMap(await flat.text()))]);"
+        "});",
+        storeys,
+    )
+    # Each height shows one of the two spawns; the higher is just below the arena's upper face.
+    want(got == [True, 65535, False], f"the page finds {got} of storeys")
 
 
 def watched_place_is_seen(page, other, slot, want):
