@@ -208,7 +208,7 @@ export function heightOfSpawns(map) {
 
 const FALL_FRAMES = 40, SHOT_SHOWN = 600;
 const match = {
-  map: null, solids: [], spawnHeight: null, period: 50, slot: null, seen: null, before: null, seenAt: 0,
+  map: null, solids: [], spawnHeight: null, period: 50, slot: null, leaves: false, seen: null, before: null, seenAt: 0,
   scores: new Map(), downUntil: new Map(), shots: [], headings: new Map(), refusals: 0, delay: null,
 };
 
@@ -276,6 +276,7 @@ function isDown(slot) {
 
 const WELCOME = 1, SNAPSHOT = 2, EVENTS = 3, GOODBYE = 4;
 const TOKEN_BYTES = 16;
+const JOIN = [1, 1], LEAVE = [1, 3];
 let socket = null, token = null, closedFor = "";
 
 function connect() {
@@ -316,6 +317,7 @@ function take(view) {
 
 function becomeWatcher() {
   match.slot = null;
+  match.leaves = false;
   Object.assign(own, { number: 0, pending: [], state: null, previous: null });
   showState("watching", false);
 }
@@ -327,6 +329,8 @@ function takeEvents(told) {
   }
   for (const event of told.events ?? []) takeEvent(event, told.frame);
   if (told.scores) match.scores = new Map(told.scores);
+  // A leave is refused where it came as one packet too many of its frame.
+  if (match.leaves && told.refused?.includes("front-packets")) send(...LEAVE);
   if (told.refused) match.refusals += told.refused.length;
   if (told.refused) addLine(`refused: ${[...new Set(told.refused)].join(", ")}`);
   showPlayers();
@@ -400,7 +404,7 @@ function step(now) {
     saidAt = now;
     send();
   }
-  if (match.slot === null || match.seen === null || match.seen.slot !== match.slot || own.state === null) {
+  if (match.slot === null || match.leaves || match.seen === null || match.seen.slot !== match.slot || own.state === null) {
     steppedTo = now;
     return;
   }
@@ -423,6 +427,13 @@ function step(now) {
   }
 }
 
+// From now on until the new welcome no move is sent: it would be refused.
+function leave() {
+  match.leaves = true;
+  send(...LEAVE);
+  showState("leaving", false);
+}
+
 function listen(canvas) {
   addEventListener("keydown", (event) => {
     if (event.ctrlKey || event.metaKey || event.altKey) return;
@@ -437,8 +448,8 @@ function listen(canvas) {
   canvas.addEventListener("pointerdown", () => { keys.pressed = true; });
   addEventListener("pointerup", () => { keys.pressed = false; });
   element("join").addEventListener("click", (event) => {
-    if (match.slot === null) send(1, 1);
-    else send(1, 3);
+    if (match.slot === null) send(...JOIN);
+    else leave();
     event.target.blur();
   });
 }
@@ -679,11 +690,18 @@ function ownPlace(now = performance.now()) {
 const element = (id) => document.getElementById(id);
 const MOST_LINES = 10;
 
+// What the map has: shots, and a goal for its gems.
+function showKeys() {
+  const has = (kind) => match.map.things.some((thing) => thing.kind === kind);
+  element("shots").hidden = !match.map.shots;
+  element("goal").hidden = !has("goal") || !has("gem");
+}
+
 function showState(text, isWrong) {
   element("state").textContent = text;
   element("state").className = isWrong ? "wrong" : "";
   element("join").textContent = match.slot === null ? "Join" : "Leave";
-  element("join").disabled = token === null;
+  element("join").disabled = token === null || match.leaves;
 }
 
 function addLine(text) {
@@ -717,7 +735,9 @@ function playerRow(slot) {
   name.className = "name";
   row.dataset.slot = slot;
   row.append(mark, name, points);
-  row.addEventListener("click", () => send(0, 1, slot));
+  row.addEventListener("click", () => {
+    if (match.slot === null) send(0, 1, slot);
+  });
   return row;
 }
 
@@ -747,6 +767,7 @@ async function begin() {
   match.map = readMap(await (await fetch("map")).text());
   match.solids = fixedSolids(match.map);
   match.spawnHeight = hasStoreys(match.map) ? heightOfSpawns(match.map) : null;
+  showKeys();
   drawing = new Drawing(element("map"));
   listen(element("map"));
   connect();
