@@ -55,6 +55,9 @@ class Pages(Calls):
         shots = [event for event in events if event[0] == "hit"]
         self.assertEqual([shot[1] for shot in shots].count(0), 4)
         self.assertEqual([event for event in events if event[0] == "fell"], [["fell", 1, 0]])
+        head = head_of(self.call("replay", example("leaving.demo"), example("leaving.out"), status=0)[0])
+        events = [[event[0], head["kinds"][event[1]], *event[2:]] for event in head["events"]]
+        self.assertEqual(events, [[0, "joined", 0, 7], [0, "left", 0, 7], [1, "joined", 0, 8]])
 
     def test_the_program_plays_where_no_output_is_given(self):
         one, _, _ = self.call("replay", example("tour.demo"), status=0)
