@@ -18,6 +18,7 @@ from common import EXAMPLES, run
 
 PREDICTED_MOVES = 600
 STALLS = 20
+LEAVES = 8
 # Two players on a line, with ammunition between them.
 RANGE = """arena -65536 -65536 0 65536 65536 49152
 shots
@@ -35,6 +36,9 @@ def try_browser(words):
             url = f"http://127.0.0.1:{front.http}/"
             with opened(url) as page, opened(url) as other:
                 plays(page, other, want)
+                leaves(page, want)
+                refused = front.metrics().get('arena_refusals_total{name="front-leaving"}', 0)
+                want(refused == 0, f"{refused:.0f} packets came from the page after a leave")
                 if words.screenshot:
                     page.save_screenshot(words.screenshot)
             ends_right(front, want)
@@ -65,8 +69,9 @@ def plays(page, other, want):
     join(other)
     want(text_of(other, "slot") != text_of(page, "slot"), "two pages have one slot")
     predicts(page, want)
-    page.find_element(By.ID, "join").click()
-    wait_until(lambda: text_of(page, "state") == "watching", "the page watches after it left")
+    cuts(page, want)
+    tells_keys(page, ["shoots", "goal"], want)
+    leave(page)
     are_silent((page, other), want)
 
 
@@ -88,6 +93,7 @@ def shoots(page, other, want):
     ammo, score = int(text_of(page, "ammo")), int(text_of(page, "score"))
     want(ammo <= 16 and score >= 1, f"after four hits the ammunition is {ammo} and the score {score}")
     print(f"browser: {20 - ammo} shots, score {score}")
+    tells_keys(page, ["shoots"], want)
     are_silent((page, other), want)
 
 
@@ -131,6 +137,19 @@ def join(page):
     wait_until(lambda: text_of(page, "state") == "playing" and text_of(page, "slot").isdigit(), "the page joins")
 
 
+def leave(page):
+    page.find_element(By.ID, "join").click()
+    wait_until(lambda: text_of(page, "state") == "watching", "the page watches after it left")
+
+
+def leaves(page, want):
+    """A page that leaves and joins again, often, sends nothing that is refused."""
+    for _ in range(LEAVES):
+        join(page)
+        leave(page)
+    are_silent((page,), want)
+
+
 def walk(page, want):
     """Each key takes the player where it should, in the snapshot; a jump lifts it; what hinders is walked round."""
     for key, axis, sign in (("w", 1, 1), ("s", 1, -1), ("a", 0, -1), ("d", 0, 1)):
@@ -171,6 +190,30 @@ def held(page, key, seconds):
     time.sleep(seconds)
     ActionChains(page).key_up(key).perform()
     time.sleep(0.3)
+
+
+def tells_keys(page, words, want):
+    """The panel tells what the map has, and all of it is in sight."""
+    text = text_of(page, "keys")
+    has = [word for word in ("shoots", "goal") if word in text]
+    want(has == words, f"the keys are told so: {text}")
+    low = page.execute_script("return document.getElementById('keys').getBoundingClientRect().bottom - innerHeight")
+    want(low <= 0, f"the panel's text ends {low} pixels below the window")
+
+
+def cuts(page, want):
+    """Of a map with storeys what stands above is left out, of another one nothing."""
+    storeys = "arena -65536 -65536 0 65536 65536 65536\nblock -65536 -65536 20000 65536 65536 24576\nspawn 0 0 6144\nspawn 0 0 30720"
+    got = page.execute_async_script(
+        "const [text, done] = arguments;"
+        "Promise.all([import('/page.js'), fetch('map')]).then(async ([{ readMap, hasStoreys, heightOfSpawns }, flat]) => {"
+        "  const map = readMap(text);"
+        "  done([hasStoreys(map), heightOfSpawns(map), hasStoreys(readMap(await flat.text()))]);"
+        "});",
+        storeys,
+    )
+    # Each height shows one of the two spawns; the higher is just below the arena's upper face.
+    want(got == [True, 65535, False], f"the page finds {got} of storeys")
 
 
 def watched_place_is_seen(page, other, slot, want):

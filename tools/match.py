@@ -117,10 +117,11 @@ class Match:
             arrivals = played.arrivals or (sent.arrivals if sent else [])
             frame = Frame(played.number, arrivals, played, heads, ports)
             self.tick(frame)
-            self.join_and_leave(frame)
+            self.join(frame)
             for move in played.moves:
                 self.run(frame, move)
             self.close(frame)
+            self.leave(frame)
             yield frame
         if self.output.frames is not None and next(recorded, None) is not None:
             raise arena.FormatError(f"the output ends after {self.output.frames} frames, and the recording has more")
@@ -130,10 +131,10 @@ class Match:
         for lift in self.lifts:
             lift.step(frame.played.snapshots.values())
 
-    def join_and_leave(self, frame: Frame) -> None:
+    def join(self, frame: Frame) -> None:
         joined = set(frame.played.joins.values())
-        for slot in [slot for slot in self.players if slot not in frame.heads or slot in joined]:
-            frame.events.append(Event(frame.number, "left", slot, self.players.pop(slot).port))
+        # An output that isn't the recording's may lack a player that didn't leave.
+        self.players = {slot: player for slot, player in self.players.items() if slot in frame.heads}
         for port, slot in frame.played.joins.items():
             self.players[slot] = Player(port)
             frame.events.append(Event(frame.number, "joined", slot, port))
@@ -141,6 +142,14 @@ class Match:
             player = self.players.setdefault(slot, Player(frame.ports[slot]))
             if slot in joined:
                 player.origin = head.origin  # until its first move; a newcomer is where it joined
+
+    def leave(self, frame: Frame) -> None:
+        """The leaves that were accepted: the frame's snapshots still have these players, and the next ones don't."""
+        slots = {port: slot for slot, port in frame.ports.items()}
+        for place, arrival in enumerate(frame.arrivals):
+            slot = slots.get(arrival.port)
+            if arrival.data == arena.leave() and place not in frame.played.refusals and slot in self.players:
+                frame.events.append(Event(frame.number, "left", slot, self.players.pop(slot).port))
 
     def run(self, frame: Frame, move: arena.Move) -> None:
         """One entry of the journal."""

@@ -22,6 +22,19 @@ except ImportError:
 BROWSER, DRIVER = shutil.which("chromium"), shutil.which("chromedriver")
 
 
+STOREYS = b"""arena -131072 -131072 0 131072 131072 65536
+block -65536 -65536 0 -32768 65536 4096
+block -65536 -65536 20000 65536 65536 24576
+block -65536 -65536 40000 65536 65536 45056
+spawn 0 0 30720
+spawn 20480 0 6144
+spawn -20480 0 6144
+frame
+from 7 0101
+end
+"""
+
+
 def head_of(page):
     return json.loads(re.search(rb'id="head">(.*?)</script>', page, re.S)[1])
 
@@ -42,6 +55,9 @@ class Pages(Calls):
         shots = [event for event in events if event[0] == "hit"]
         self.assertEqual([shot[1] for shot in shots].count(0), 4)
         self.assertEqual([event for event in events if event[0] == "fell"], [["fell", 1, 0]])
+        head = head_of(self.call("replay", example("leaving.demo"), example("leaving.out"), status=0)[0])
+        events = [[event[0], head["kinds"][event[1]], *event[2:]] for event in head["events"]]
+        self.assertEqual(events, [[0, "joined", 0, 7], [0, "left", 0, 7], [1, "joined", 0, 8]])
 
     def test_the_program_plays_where_no_output_is_given(self):
         one, _, _ = self.call("replay", example("tour.demo"), status=0)
@@ -134,6 +150,20 @@ class InBrowser(Calls):
         while self.text("#where") != "frame 12 of 12":
             self.assertLess(time.monotonic(), until, "the match was played to its end")
             time.sleep(0.1)
+        self.assertEqual(self.browser.get_log("browser"), [])
+
+    def test_what_stands_above_is_left_out(self):
+        """Two spawns under a ceiling of 20,000 and one on it, under one of 40,000; without ceilings nothing is cut."""
+        self.show(self.call("replay", self.path("storeys.demo", STOREYS), status=0)[0])
+        shown = "return [shownHeight, world.blocks.filter(stands).length, byId('height').disabled]"
+        self.assertEqual(self.browser.execute_script(shown), [19_999, 1, False])
+        self.click("#players tbody tr")
+        self.assertEqual(self.browser.execute_script(shown), [24_576 + 6_144 + 8_191, 2, True])
+        self.click("#players tbody tr")
+        self.browser.execute_script("byId('height').value = 65535; byId('height').oninput({ target: byId('height') })")
+        self.assertEqual(self.browser.execute_script(shown), [65_535, 3, False])
+        self.show(self.call("replay", example("duel.demo"), example("duel.out"), status=0)[0])
+        self.assertEqual(self.browser.execute_script("return [shownHeight, byId('level').hidden]"), [None, True])
         self.assertEqual(self.browser.get_log("browser"), [])
 
     def test_refused_packets_are_shown(self):

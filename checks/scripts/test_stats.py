@@ -37,9 +37,28 @@ class Stats(Calls):
         players = self.counted(example("ninth-move.demo"), example("ninth-move.out"))["players"]
         self.assertEqual(players[0]["refused"], {"Many": 1})
 
+    def leaves(self, *words):
+        """The slot, the frames of join and leave and the moves of each player, and the joins and leaves of each frame."""
+        found = self.counted(*words)
+        players = [tuple(player[name] for name in ("slot", "joined", "left", "moves")) for player in found["players"]]
+        return players, [(frame["players"], frame["joins"], frame["leaves"]) for frame in found["frames"]]
+
     def test_leaves(self):
-        players = self.counted(example("leaving.demo"), example("leaving.out"))["players"]
-        self.assertEqual([(player["slot"], player["left"] is None) for player in players], [(0, False), (0, True)])
+        """A leave is of the frame in which its packet was accepted, also of that of its join or of the last one."""
+        rows = [(0, 0, 0, 1), (0, 1, None, 0)], [(1, 1, 1), (1, 1, 0)]
+        self.assertEqual(self.leaves(example("leaving.demo"), example("leaving.out")), rows)
+        rows = [(0, 0, 3, 2), (0, 4, None, 1)], [(1, 1, 0), (1, 0, 0), (1, 0, 0), (1, 0, 1), (1, 1, 0)]
+        self.assertEqual(self.leaves(example("old-later.demo"), example("old-later.out")), rows)
+        # The second leave of port 8 and that of a port without a player are refused.
+        last = content("leaving.demo").replace(b"from 8 0101\n", b"from 8 0101\nfrom 8 0103\nfrom 8 0103\nfrom 9 0103\n")
+        path = self.path("last.demo", last)
+        rows = [(0, 0, 0, 1), (0, 1, 1, 0)], [(1, 1, 1), (1, 1, 1)]
+        self.assertEqual(self.leaves(path), rows)
+        fed = self.path("fed", run(["feed", "1"], last)[0])
+        self.assertEqual(self.leaves(path, fed), rows)
+        out, _, _ = self.call("stats", path, "--prometheus", status=0)
+        self.assertIn(b'\nmustardawl_score{port="8",slot="0"} 0\n', out)
+        self.assertNotIn(b'port="7"', out)
 
     def test_tables_and_metrics(self):
         out, _, _ = self.call("stats", example("duel.demo"), example("duel.out"), "--csv", status=0)

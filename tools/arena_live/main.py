@@ -14,7 +14,7 @@ import signal
 import subprocess
 import sys
 import tempfile
-from typing import Callable, List, Optional, Tuple
+from typing import Awaitable, Callable, Iterable, List, Optional, Tuple
 
 import arena
 import program
@@ -26,7 +26,7 @@ from arena_live.resume import resume
 from arena_live.saved import MOST_FRAMES, Saved, SaveFault, Settings, read_map
 from arena_live.sessions import Sessions
 from arena_live.udp import Udp
-from arena_live.verdict import NOT_JUDGED, WRONG, judge
+from arena_live.verdict import NOT_JUDGED, WRONG, Verdict, judge
 
 try:
     from arena_live.web import Web
@@ -69,13 +69,14 @@ def read_words() -> argparse.Namespace:
     add("--bind", metavar="ADDRESS", default="127.0.0.1", help="where both listen (default 127.0.0.1, this machine)")
     add("--save", metavar="FOLDER", help="where the match is saved (default: a new folder among the temporary files)")
     add("--resume", metavar="FOLDER", help="go on with the match that was saved there, in place of MAP")
+    add("--judge", metavar="FOLDER", help="judge the match that was saved there, in place of MAP, and play none")
     add("--frames", metavar="N", type=a_match, help="end when the match has so many frames")
     next_match = "frames of a match; then a new one begins, in FOLDER-2 and so on (default 100000, the most)"
     add("--match", metavar="N", type=a_match, default=MOST_FRAMES, help=next_match)
     words = parser.parse_args()
-    if (words.map is None) == (words.resume is None):
-        parser.error("one of MAP and --resume FOLDER is wanted")
-    if words.resume is not None and words.save is not None:
+    if sum(word is not None for word in (words.map, words.resume, words.judge)) != 1:
+        parser.error("one of MAP, --resume FOLDER and --judge FOLDER is wanted")
+    if words.map is None and words.save is not None:
         parser.error("--save is for a new match: a resumed one goes on in its folder")
     if not words.bind:
         parser.error("--bind wants an address")
@@ -208,20 +209,34 @@ class Live:
         counts = (self._metrics.counts[f"arena_{name}_total"] for name in ("frames", "late_frames", "joins", "moves"))
         said = "{} frames, {} late, {} joins, {} moves".format(*counts)
         say(f"{said}; milliseconds from when a frame was due until it was sent: {times}")
-        judged = asyncio.gather(*self._judging)
-        if not judged.done():
-            say("it is judged; Control-C leaves it unjudged")
-        for number in (signal.SIGINT, signal.SIGTERM):
-            asyncio.get_running_loop().add_signal_handler(number, judged.cancel)
-        try:
-            verdicts = await judged
-        except asyncio.CancelledError:
-            say("not judged: it was stopped")
-            return UNJUDGED
-        for verdict in verdicts:
-            say(str(verdict))
-        kinds = {verdict.kind for verdict in verdicts}
-        return ONE_WRONG if WRONG in kinds else UNJUDGED if NOT_JUDGED in kinds else ALL_RIGHT
+        return await tell_verdicts(self._judging)
+
+
+async def tell_verdicts(judging: Iterable[Awaitable[Verdict]]) -> int:
+    """Waits for the verdicts and prints them: the status of the run."""
+    judged = asyncio.gather(*judging)
+    if not judged.done():
+        say("it is judged; Control-C leaves it unjudged")
+    for number in (signal.SIGINT, signal.SIGTERM):
+        asyncio.get_running_loop().add_signal_handler(number, judged.cancel)
+    try:
+        verdicts = await judged
+    except asyncio.CancelledError:
+        say("not judged: it was stopped")
+        return UNJUDGED
+    for verdict in verdicts:
+        say(str(verdict))
+    kinds = {verdict.kind for verdict in verdicts}
+    return ONE_WRONG if WRONG in kinds else UNJUDGED if NOT_JUDGED in kinds else ALL_RIGHT
+
+
+async def judge_saved(folder: str) -> int:
+    """Judges a match that was saved before, as at its end."""
+    saved = Saved.reopen(folder)
+    try:
+        return await tell_verdicts([judge(program.PROGRAM, saved)])
+    finally:
+        saved.close()
 
 
 def refuse_bad_map(path: str, ground: Arena) -> None:
@@ -238,9 +253,9 @@ def refuse_bad_map(path: str, ground: Arena) -> None:
         raise Misuse(f"{path} is no map that the program takes: {said}; `tools/why` says it in words")
 
 
-def why_not() -> Optional[str]:
+def why_not(words: argparse.Namespace) -> Optional[str]:
     """What this machine lacks, or None."""
-    if Web is None:
+    if Web is None and words.judge is None:
         return f"{sys.executable} has no aiohttp: `apt-get install python3-aiohttp`, and run it by /usr/bin/python3"
     return program.lacking()
 
@@ -255,10 +270,10 @@ def main() -> int:
         print(f"live: {program.sentence_of(fault)[0]}", file=sys.stderr)
         return MISUSED
     try:
-        why = why_not() or (program.unreadable(words.map) if words.map is not None else None)
+        why = why_not(words) or (program.unreadable(words.map) if words.map is not None else None)
         if why is not None:
             raise Misuse(why)
-        return asyncio.run(Live(words).run())
+        return asyncio.run(judge_saved(words.judge) if words.judge is not None else Live(words).run())
     except (Misuse, SaveFault, ProgramEnded, arena.FormatError) as fault:
         complain(str(fault))
         return MISUSED

@@ -102,9 +102,9 @@ class Saved:
                 settings = Settings(**json.load(file))
             return cls(folder, settings)
         except OSError as why:
-            raise SaveFault(f"{folder} has no match to resume: {why.strerror}") from None
+            raise SaveFault(f"{folder} has no match: {why.strerror}") from None
         except (ValueError, TypeError):
-            raise SaveFault(f"{folder} has no match to resume: match.json isn't one of `tools/live`") from None
+            raise SaveFault(f"{folder} has no match: match.json isn't one of `tools/live`") from None
 
     @staticmethod
     def opening(map_lines: Sequence[bytes]) -> bytes:

@@ -180,11 +180,35 @@ export function fixedSolids(map) {
   return [...walls, ...map.blocks];
 }
 
+// ---- What of the map is shown: all of it, or of one with storeys what stands at a height or below it.
+
+const HEAD = PLAYER_BODY[5] - 1;  // the highest place of a player, above its origin
+
+function isOver(body, block) {
+  return block[2] >= body[5] && overlapsOn(0, body, block, 0) && overlapsOn(1, body, block, 0);
+}
+
+// Whether a player fits under a block.
+export function hasStoreys(map) {
+  return map.blocks.some((block) => block[2] - map.arena[2] >= PLAYER_BODY[5] - PLAYER_BODY[2]);
+}
+
+// The highest height at which the most spawns are seen: from the head of who joins there to below what is over it.
+export function heightOfSpawns(map) {
+  const seen = map.spawns.map((spawn) => {
+    const over = map.blocks.filter((block) => isOver(bodyAt(spawn), block)).map((block) => block[2]);
+    return [spawn[2] + HEAD, Math.min(map.arena[5], ...over) - 1];
+  });
+  const count = (height) => seen.filter(([low, high]) => low <= height && height <= high).length;
+  const heights = seen.map(([, high]) => high).sort((a, b) => b - a);
+  return heights.reduce((best, height) => (count(height) > count(best) ? height : best));
+}
+
 // ---- The match as this page knows it.
 
 const FALL_FRAMES = 40, SHOT_SHOWN = 600;
 const match = {
-  map: null, solids: [], period: 50, slot: null, seen: null, before: null, seenAt: 0,
+  map: null, solids: [], spawnHeight: null, period: 50, slot: null, leaves: false, seen: null, before: null, seenAt: 0,
   scores: new Map(), downUntil: new Map(), shots: [], headings: new Map(), refusals: 0, delay: null,
 };
 
@@ -252,6 +276,7 @@ function isDown(slot) {
 
 const WELCOME = 1, SNAPSHOT = 2, EVENTS = 3, GOODBYE = 4;
 const TOKEN_BYTES = 16;
+const JOIN = [1, 1], LEAVE = [1, 3];
 let socket = null, token = null, closedFor = "";
 
 function connect() {
@@ -292,6 +317,7 @@ function take(view) {
 
 function becomeWatcher() {
   match.slot = null;
+  match.leaves = false;
   Object.assign(own, { number: 0, pending: [], state: null, previous: null });
   showState("watching", false);
 }
@@ -303,6 +329,8 @@ function takeEvents(told) {
   }
   for (const event of told.events ?? []) takeEvent(event, told.frame);
   if (told.scores) match.scores = new Map(told.scores);
+  // A leave is refused where it came as one packet too many of its frame.
+  if (match.leaves && told.refused?.includes("front-packets")) send(...LEAVE);
   if (told.refused) match.refusals += told.refused.length;
   if (told.refused) addLine(`refused: ${[...new Set(told.refused)].join(", ")}`);
   showPlayers();
@@ -376,7 +404,7 @@ function step(now) {
     saidAt = now;
     send();
   }
-  if (match.slot === null || match.seen === null || match.seen.slot !== match.slot || own.state === null) {
+  if (match.slot === null || match.leaves || match.seen === null || match.seen.slot !== match.slot || own.state === null) {
     steppedTo = now;
     return;
   }
@@ -399,6 +427,13 @@ function step(now) {
   }
 }
 
+// From now on until the new welcome no move is sent: it would be refused.
+function leave() {
+  match.leaves = true;
+  send(...LEAVE);
+  showState("leaving", false);
+}
+
 function listen(canvas) {
   addEventListener("keydown", (event) => {
     if (event.ctrlKey || event.metaKey || event.altKey) return;
@@ -413,14 +448,15 @@ function listen(canvas) {
   canvas.addEventListener("pointerdown", () => { keys.pressed = true; });
   addEventListener("pointerup", () => { keys.pressed = false; });
   element("join").addEventListener("click", (event) => {
-    if (match.slot === null) send(1, 1);
-    else send(1, 3);
+    if (match.slot === null) send(...JOIN);
+    else leave();
     event.target.blur();
   });
 }
 
 // ---- The drawing.
 
+const DEPTH = 40960;  // as far below what is shown a floor is half as pale
 const THING_COLOURS = { ammo: "#e58a2b", gem: "#3fc6d9", teleporter: "#a56be0", goal: "#4fbf67", lift: "#c8b98a" };
 
 function playerColour(slot) {
@@ -431,7 +467,8 @@ class Drawing {
   constructor(canvas) {
     this.canvas = canvas;
     this.pen = canvas.getContext("2d");
-    this.ground = document.createElement("canvas");
+    this.blocks = [...match.map.blocks].sort((a, b) => a[5] - b[5]);
+    this.height = null;
   }
 
   // Fits the arena into the canvas, or shows a part of it around the player.
@@ -464,14 +501,29 @@ class Drawing {
     return [this.x(x0), this.y(y1), (x1 - x0) * this.scale, (y1 - y0) * this.scale];
   }
 
-  shade(height) {
-    const [, , z0, , , z1] = match.map.arena, part = Math.sqrt((height - z0) / (z1 - z0));
+  // What stands above the head of the player that is watched is left out of a map with storeys.
+  cut(now) {
+    if (match.spawnHeight === null) return;
+    this.height = match.seen === null ? match.spawnHeight : ownPlace(now)[2] + HEAD;
+  }
+
+  stands(box) {
+    return this.height === null || box[2] <= this.height;
+  }
+
+  // The paler the higher a top is; what is cut is dark.
+  shade(top) {
+    if (this.height !== null) {
+      return top > this.height ? "#11151b" : `hsl(215 14% ${18 + (54 * DEPTH) / (DEPTH + this.height - top)}%)`;
+    }
+    const [, , z0, , , z1] = match.map.arena, part = Math.sqrt((top - z0) / (z1 - z0));
     return `hsl(215 ${22 - 10 * part}% ${17 + 50 * part}%)`;
   }
 
   all(now) {
     if (match.map === null) return;
     this.fit();
+    this.cut(now);
     const { pen } = this;
     pen.fillStyle = "#14171c";
     pen.fillRect(0, 0, this.canvas.width, this.canvas.height);
@@ -485,7 +537,7 @@ class Drawing {
     const { pen } = this;
     pen.fillStyle = this.shade(match.map.arena[2]);
     pen.fillRect(...this.rectangle(match.map.arena));
-    for (const block of [...match.map.blocks].sort((a, b) => a[5] - b[5])) {
+    for (const block of this.blocks.filter((block) => this.stands(block))) {
       pen.fillStyle = this.shade(block[5]);
       pen.strokeStyle = "#0d0f13";
       pen.lineWidth = this.ratio;
@@ -498,6 +550,7 @@ class Drawing {
     match.map.things.forEach((thing, i) => {
       const seen = match.seen?.entities.get(FIRST_THING + i);
       const origin = seen?.origin ?? thing.origin ?? thing.box.slice(0, 3);
+      if (!this.stands(origin)) return;
       this.pen.globalAlpha = seen && !seen.isThere ? 0.25 : 1;
       this.pen.strokeStyle = this.pen.fillStyle = THING_COLOURS[thing.kind];
       this.pen.lineWidth = 2 * this.ratio;
@@ -637,11 +690,18 @@ function ownPlace(now = performance.now()) {
 const element = (id) => document.getElementById(id);
 const MOST_LINES = 10;
 
+// What the map has: shots, and a goal for its gems.
+function showKeys() {
+  const has = (kind) => match.map.things.some((thing) => thing.kind === kind);
+  element("shots").hidden = !match.map.shots;
+  element("goal").hidden = !has("goal") || !has("gem");
+}
+
 function showState(text, isWrong) {
   element("state").textContent = text;
   element("state").className = isWrong ? "wrong" : "";
   element("join").textContent = match.slot === null ? "Join" : "Leave";
-  element("join").disabled = token === null;
+  element("join").disabled = token === null || match.leaves;
 }
 
 function addLine(text) {
@@ -675,7 +735,9 @@ function playerRow(slot) {
   name.className = "name";
   row.dataset.slot = slot;
   row.append(mark, name, points);
-  row.addEventListener("click", () => send(0, 1, slot));
+  row.addEventListener("click", () => {
+    if (match.slot === null) send(0, 1, slot);
+  });
   return row;
 }
 
@@ -704,6 +766,8 @@ let drawing = null;
 async function begin() {
   match.map = readMap(await (await fetch("map")).text());
   match.solids = fixedSolids(match.map);
+  match.spawnHeight = hasStoreys(match.map) ? heightOfSpawns(match.map) : null;
+  showKeys();
   drawing = new Drawing(element("map"));
   listen(element("map"));
   connect();
