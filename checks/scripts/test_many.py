@@ -63,6 +63,21 @@ class Many(Calls):
         self.put("\x1b]0;evil\x07.demo", content("refused.demo"))
         self.assertNotIn("\x1b", self.many(status=1)[0])
 
+    def test_names_are_no_program(self):
+        """GNU parallel runs Perl that stands in its command: no name of a file or a folder may come there."""
+        trap = "{= qx(touch PWNED) =} {}"
+        folder = self.path("in " + trap)
+        os.mkdir(folder)
+        self.recordings = os.path.join(folder, "b " + trap)
+        os.mkdir(self.recordings)
+        self.put(trap + ".demo", content("one-join.demo"))
+        program = shutil.copy(PROGRAM, os.path.join(folder, "p " + trap))
+        _, found, _ = self.many(status=0, cwd=folder, env={"ARENA_CLI": program})
+        self.assertEqual(self.ends(found), {trap + ".demo": "right"})
+        self.put(trap + ".out", content("one-join.out"))
+        self.many("--pairs", "--joblog", self.path("l " + trap), status=0, cwd=folder, env={"ARENA_CLI": program})
+        self.assertEqual([name for _, _, names in os.walk(self.folder) for name in names if name == "PWNED"], [])
+
     def test_what_is_no_recording(self):
         os.symlink("/none", os.path.join(self.recordings, "dangling.demo"))
         os.mkdir(os.path.join(self.recordings, "folder.demo"))
@@ -276,7 +291,8 @@ class Many(Calls):
         for name in ODD[:2] + ["plain.demo"]:
             self.put(name, content("duel.demo"))
         self.put("packed.demo.gz", gzip.compress(content("lift.demo")))
-        environment = {"PATH": f"{bins}:{os.environ['PATH']}", "FAR_HOME": home}
+        program = shutil.copy(PROGRAM, self.path("p {= qx(touch PWNED) =}\\n"))
+        environment = {"PATH": f"{bins}:{os.environ['PATH']}", "FAR_HOME": home, "ARENA_CLI": program}
         _, found, _ = self.many("--sshlogin", "far", "-j", "2", status=0, env=environment)
         self.assertEqual((len(found), set(self.ends(found).values())), (4, {"right"}))
         left = [name for _, _, files in os.walk(home) for name in files if "demo" in name or name == "many_job.py"]
