@@ -67,6 +67,22 @@ class FromQuake(Calls):
         for name, data in (("a.bsp", maps.pack_bsp([planes], SPAWN)), ("a.map", maps.room(maps.entity_text({}, [planes])).encode())):
             self.assertIn(b"sides, and 72 are the most", self.call("from_quake", self.path(name, data), status=1)[1])
 
+    def test_parts_that_are_not_there(self):
+        """A curve of points before the first, and a package whose name of a part is no text."""
+        face = struct.pack("<12i12fii", 0, -1, 2, -5, 9, *[0] * 7, *[0.0] * 12, 3, 3)
+        planes = [maps.box_planes(*wall) for wall in maps.WALLS]
+        data = maps.pack_bsp(planes, SPAWN)
+        at = 8 + 8 * 13
+        data = data[:at] + struct.pack("<ii", len(data), len(face)) + data[at + 8 :] + face
+        error = self.call("from_quake", self.path("curve.bsp", data), status=1)[1]
+        self.assertIn(b"a curve names points that aren't there", error)
+        with zipfile.ZipFile(self.path("a.pk3"), "w") as package:
+            package.writestr("maps/\xe9.bsp", data)
+        with open(self.path("a.pk3"), "rb") as file:
+            changed = file.read().replace("\xe9".encode(), b"\xff\xff")
+        error = self.call("from_quake", self.path("b.pk3", changed) + ":maps/a.bsp", status=1)[1]
+        self.assertIn(b"it is no package that can be read", error)
+
     def test_names(self):
         with zipfile.ZipFile(self.path("a :b.pk3"), "w") as package:
             package.write(self.room("\x1b[31m room.map"), "maps/room.map")
