@@ -2,6 +2,7 @@
 import gzip
 import json
 import os
+import resource
 import shutil
 import signal
 import subprocess
@@ -209,6 +210,37 @@ class Many(Calls):
         os.remove(self.path("results"))
         out, found, _ = self.many("--joblog", log, "--resume", status=1)
         self.assertIn("4  before", out)
+
+    def test_results_that_are_damaged(self):
+        """Lines that are no result are passed over, and after one that was cut the next begins a line of its own."""
+        for name in ("a.demo", "b.demo", "c.demo"):
+            self.put(name, content("one-join.demo"))
+        log, results = self.path("jobs"), self.path("results")
+        self.many("--joblog", log, "-j", "1", status=0)
+        with open(results, "rb") as file:
+            first = file.readline()
+        odd = [b'{"name":"a.demo","end":"foo"}', b'{"name":"a.demo","end":"refused","fault":3}', b"[" * 9000, b'["name"]', b"3"]
+        odd += [b'{"name":["a.demo"],"end":"right"}', b'{"name":"a.demo","end":["right"]}', b'{"end":"right","refusals":"2"}']
+        self.path("results", first + b"\n".join([*odd, first[:9]]))
+        with open(log) as file:
+            lines = file.readlines()
+        self.path("jobs", "".join(lines[:2]).encode())
+        out = self.call("many", self.recordings, "--jsonl", results, "--joblog", log, "--resume", status=0)[0]
+        self.assertIn(b"3  right", out)
+        with open(results, "rb") as file:
+            self.assertEqual([json.loads(line)["end"] for line in file.readlines()[-2:]], ["right", "right"])
+
+    def test_a_line_without_an_end(self):
+        """A recording of zero bytes alone, a gigabyte of them, is refused without being read as one line."""
+        with open(os.path.join(self.recordings, "sparse.demo"), "wb") as file:
+            file.truncate(1 << 30)
+        self.put("packed.demo.gz", gzip.compress(b"x" * (1 << 24)))
+        self.put("sparse.out", b"")
+        self.put("packed.out", b"")
+        most = 600_000_000
+        for words in ([], ["--pairs"]):
+            limit = {"preexec_fn": lambda: resource.setrlimit(resource.RLIMIT_AS, (most, most))}
+            self.assertEqual(set(self.ends(self.many(*words, "-j", "1", status=1, **limit)[1]).values()), {"refused"})
 
     def test_a_signal_ends_all(self):
         """No program and no file is left by a signal, whichever it is."""
