@@ -17,6 +17,12 @@ from program import (  # noqa: E402,F401
 )
 
 
+def changes_and_seed(words):
+    """Words are how often a check changes what it has, and a seed; one that tries nothing may not pass."""
+    why = at_most_numbers(2)(words)
+    return why or ("of 0 changes nothing can be said" if words and int(words[0]) == 0 else None)
+
+
 def script(folder, name):
     """A script, whose name has no `.py`, as a module."""
     loader = importlib.machinery.SourceFileLoader(name, os.path.join(folder, name))

@@ -148,4 +148,7 @@ def on_maps(path, frames):
     """Each recording at a path as it is, and each map there with 64 walkers."""
     for place, data in maps_at(path):
         name = os.path.basename(place).removesuffix(".gz").removesuffix(".demo")
-        yield Case(f"map {name}", data if b"\nframe\n" in data else walked(data, 64, frames))
+        case = Case(f"map {name}", data if b"\nframe\n" in data else walked(data, 64, frames))
+        if not case.frames:
+            raise FormatError(f"{place}: nobody can walk on this map, so there is no frame to time")
+        yield case

@@ -23,6 +23,8 @@ import threading
 import zlib
 
 BLOCK = 1 << 16
+# A line of a recording has 512 bytes at the most. One of more is handed on by its first ones, for which it is refused.
+MOST_LINE = 1 << 10
 PR_SET_PDEATHSIG = 1
 READING = (OSError, EOFError, zlib.error)
 REFUSED = re.compile(r"recording refused: line (\d+), fault (\d+)")
@@ -51,9 +53,17 @@ def opened(path):
     return gzip.open(file, "rb") if file.peek(2)[:2] == b"\x1f\x8b" else file
 
 
+def lines_of(file):
+    """The lines of a recording, up to the first bytes of one that is too long."""
+    while line := file.readline(MOST_LINE):
+        yield line
+        if len(line) == MOST_LINE:
+            return
+
+
 def lines_to_end(file):
     """The lines of a recording up to its `end`, which gets a line feed where it has none."""
-    for line in file:
+    for line in lines_of(file):
         if line.rstrip(b"\r\n") == b"end":
             yield b"end\n"
             return
@@ -61,7 +71,7 @@ def lines_to_end(file):
 
 
 def map_lines(file):
-    for line in file:
+    for line in lines_of(file):
         if line.rstrip(b"\r\n") in (b"frame", b"end"):
             break
         yield line
@@ -211,7 +221,7 @@ def pair(path, recording):
 def is_frame(recording, number):
     """Whether the line of this number begins a frame."""
     with opened(recording) as file:
-        line = next((line for place, line in enumerate(file, 1) if place == number), b"")
+        line = next((line for place, line in enumerate(lines_of(file), 1) if place == number), b"")
     return line.rstrip(b"\r\n") == b"frame"
 
 

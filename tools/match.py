@@ -6,7 +6,7 @@ shows the lift.
 """
 import struct
 from dataclasses import dataclass, field
-from typing import Dict, Iterator, List, Optional, Tuple
+from typing import Dict, Iterable, Iterator, List, Optional, Tuple
 
 import arena
 
@@ -90,6 +90,26 @@ class Lift:
         return None
 
 
+def head_of(data: bytes) -> arena.Snapshot:
+    """A snapshot's head, where it has the bytes of its entities."""
+    head = arena.read_head(data)
+    size = arena.HEAD_BYTES + arena.ENTITY_BYTES * head.count
+    if len(data) != size:
+        raise arena.SnapshotFault("Short" if len(data) < size else "Long")
+    return head
+
+
+def with_last(frames: Iterable[arena.PlayedFrame]) -> Iterator[Tuple[arena.PlayedFrame, bool]]:
+    """Each frame, and whether it is the last one."""
+    before = None
+    for frame in frames:
+        if before is not None:
+            yield before, False
+        before = frame
+    if before is not None:
+        yield before, True
+
+
 class Match:
     """The map and the frames of a recording with its output."""
 
@@ -101,21 +121,26 @@ class Match:
         self.lifts = [Lift(thing) for thing in self.map.things if thing.kind == "lift"]
 
     def frames(self) -> Iterator[Frame]:
-        """All frames that the output has; those of a log have their own packets, and its recording may be a map alone."""
+        """All frames that the output has, but for a last one that a cut leaves unfinished.
+
+        Those of a log have their own packets, and its recording may be a map alone.
+        """
         ports: Dict[int, int] = {}
         recorded = iter(self.recording)
         sent = None
-        for played in self.output:
+        for played, is_last in with_last(self.output):
             before, sent = sent, next(recorded, None)
             if before is not None and sent is None:
                 raise arena.FormatError(f"the output has a frame {played.number}, and the recording ends before it")
             ports = arena.ports_by_slot(played, ports)
             try:
-                heads = {slot: arena.read_head(data) for slot, data in played.snapshots.items()}
+                heads = {slot: head_of(data) for slot, data in played.snapshots.items()}
             except arena.SnapshotFault as why:
                 raise arena.FormatError(f"frame {played.number}: bytes are no snapshot ({why.name})") from None
             arrivals = played.arrivals or (sent.arrivals if sent else [])
             frame = Frame(played.number, arrivals, played, heads, ports)
+            if is_last and self.output.frames is None and self.is_unfinished(frame):
+                return
             self.tick(frame)
             self.join(frame)
             for move in played.moves:
@@ -125,6 +150,13 @@ class Match:
             yield frame
         if self.output.frames is not None and next(recorded, None) is not None:
             raise arena.FormatError(f"the output ends after {self.output.frames} frames, and the recording has more")
+
+    def is_unfinished(self, frame: Frame) -> bool:
+        """Whether a line is lacking: the last ones are `to` of each player, and without any each packet is refused."""
+        awaited = {*self.players, *frame.played.joins.values()}
+        if awaited or frame.heads:
+            return not awaited <= set(frame.heads)
+        return len(frame.played.refusals) < len(frame.arrivals)
 
     def tick(self, frame: Frame) -> None:
         self.away = {thing: back for thing, back in self.away.items() if back > frame.number}
@@ -136,6 +168,8 @@ class Match:
         # An output that isn't the recording's may lack a player that didn't leave.
         self.players = {slot: player for slot, player in self.players.items() if slot in frame.heads}
         for port, slot in frame.played.joins.items():
+            if slot not in frame.heads:
+                raise arena.FormatError(f"frame {frame.number}: slot {slot} joins, and has no snapshot")
             self.players[slot] = Player(port)
             frame.events.append(Event(frame.number, "joined", slot, port))
         for slot, head in frame.heads.items():
@@ -160,6 +194,8 @@ class Match:
             player.state = 0
         player.origin = move.origin
         for thing in move.taken:
+            if thing < arena.FIRST_THING:
+                raise arena.FormatError(f"frame {frame.number}: slot {move.slot} got {thing}, which is the id of no thing")
             frame.events.append(Event(frame.number, "item", move.slot, thing))
             if thing - arena.FIRST_THING < len(self.map.things):
                 self.away[thing] = frame.number + self.map.thing(thing).delay

@@ -155,3 +155,8 @@ def unreadable(path):
 
 def files(words):
     return next((why for why in map(unreadable, words) if why), None)
+
+
+def apart(words):
+    """As `files`, of files that are all read before the script ends: standard input can't be two of them."""
+    return "standard input can't be two files" if words.count("-") > 1 else files(words)

@@ -1,13 +1,19 @@
 """What the checks say where a user gives them nothing to do, or what they need isn't there."""
+import contextlib
+import io
 import os
+import re
 import shutil
 import signal
 import subprocess
 import sys
 import unittest
+import unittest.mock
 
-from calls import SECONDS, Calls, content
-from common import CHECKS, PROGRAM, TOOLS
+from calls import SECONDS, Calls, content, run
+from common import CHECKS, PROGRAM, TOOLS, script
+
+soak = script(CHECKS, "soak")
 
 # A script that has a folder of its own while it waits.
 HELD = """
@@ -72,6 +78,23 @@ class Checks(Calls):
     def test_numbers_without_end(self):
         for name, words in (("soak", ["\u00b2"]), ("no_memory", ["9" * 5000]), ("transcripts", ["9" * 5000])):
             self.assertEqual(self.check(name, *words)[1], 2)
+
+    def test_nothing_to_try(self):
+        for name, words in (("no_memory", ["5", "1"]), ("no_memory", ["0"]), ("transcripts", ["0"]), ("audits", ["00", "1"])):
+            error, status = self.check(name, *words)
+            self.assertRegex(error, b"^" + name.encode() + b": (of 0 changes|from allocation)")
+            self.assertEqual(status, 2)
+        self.assertEqual(self.check("refuse_memory", "play", "help", ARENA_CLI=shutil.which("true"))[1], 1)
+
+    def test_a_wrong_way_is_a_fault(self):
+        """`soak` says of which recording `bots` wrote what its certificate doesn't hold for, and goes on."""
+        output, changed = run(["bots", "1"], content("ways.demo"))[0], []
+        changed += [re.sub(rb"\nlength \d+\n", b"\nlength 999999\n", output), b"way x\n"]
+        with contextlib.redirect_stdout(io.StringIO()) as told:
+            for output in changed:
+                with unittest.mock.patch.object(soak, "run", lambda words, given: (output, b"", 0)):
+                    soak.plan_way("here", content("ways.demo"), (b"", 0), unittest.mock.Mock(**{"choice.return_value": 1}))
+        self.assertEqual(told.getvalue().count("here: bots 1: this doesn't hold: "), 2)
 
     def test_a_program_that_writes_nothing(self):
         recordings = self.path("recordings")

@@ -1,4 +1,5 @@
 """`from_quake`: what a user does wrong. `checks/from_quake` tries what it makes of maps."""
+import math
 import os
 import random
 import re
@@ -56,6 +57,31 @@ class FromQuake(Calls):
             with open(self.room()) as room, open(changed, "w") as file:
                 file.write(re.sub(r"\( -?[0-9.]+ ", f"( {number} ", room.read(), 1))
             self.assertIn(b"has a number that no map has\n", self.call("from_quake", changed, status=1)[1])
+
+    def test_lines_that_take_long(self):
+        """A plane's line without a texture could be parted into numbers in very many ways."""
+        point = "( " + " ".join(["111111111111"] * 3) + " )"
+        entity = '{\n"classname" "worldspawn"\n{\n' + " ".join([point] * 3) + "\n}\n}\n"
+        self.call("from_quake", self.path("long.map", entity.encode()), status=1)
+        planes = [((0.9 * math.cos(turn), 0.9 * math.sin(turn), 0.43), 100.0) for turn in range(160)]
+        for name, data in (("a.bsp", maps.pack_bsp([planes], SPAWN)), ("a.map", maps.room(maps.entity_text({}, [planes])).encode())):
+            self.assertIn(b"sides, and 72 are the most", self.call("from_quake", self.path(name, data), status=1)[1])
+
+    def test_parts_that_are_not_there(self):
+        """A curve of points before the first, and a package whose name of a part is no text."""
+        face = struct.pack("<12i12fii", 0, -1, 2, -5, 9, *[0] * 7, *[0.0] * 12, 3, 3)
+        planes = [maps.box_planes(*wall) for wall in maps.WALLS]
+        data = maps.pack_bsp(planes, SPAWN)
+        at = 8 + 8 * 13
+        data = data[:at] + struct.pack("<ii", len(data), len(face)) + data[at + 8 :] + face
+        error = self.call("from_quake", self.path("curve.bsp", data), status=1)[1]
+        self.assertIn(b"a curve names points that aren't there", error)
+        with zipfile.ZipFile(self.path("a.pk3"), "w") as package:
+            package.writestr("maps/\xe9.bsp", data)
+        with open(self.path("a.pk3"), "rb") as file:
+            changed = file.read().replace("\xe9".encode(), b"\xff\xff")
+        error = self.call("from_quake", self.path("b.pk3", changed) + ":maps/a.bsp", status=1)[1]
+        self.assertIn(b"it is no package that can be read", error)
 
     def test_names(self):
         with zipfile.ZipFile(self.path("a :b.pk3"), "w") as package:

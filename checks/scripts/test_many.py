@@ -2,6 +2,7 @@
 import gzip
 import json
 import os
+import resource
 import shutil
 import signal
 import subprocess
@@ -62,6 +63,21 @@ class Many(Calls):
         self.assertEqual(self.ends(found), {name: "right" for name in ODD})
         self.put("\x1b]0;evil\x07.demo", content("refused.demo"))
         self.assertNotIn("\x1b", self.many(status=1)[0])
+
+    def test_names_are_no_program(self):
+        """GNU parallel runs Perl that stands in its command: no name of a file or a folder may come there."""
+        trap = "{= qx(touch PWNED) =} {}"
+        folder = self.path("in " + trap)
+        os.mkdir(folder)
+        self.recordings = os.path.join(folder, "b " + trap)
+        os.mkdir(self.recordings)
+        self.put(trap + ".demo", content("one-join.demo"))
+        program = shutil.copy(PROGRAM, os.path.join(folder, "p " + trap))
+        _, found, _ = self.many(status=0, cwd=folder, env={"ARENA_CLI": program})
+        self.assertEqual(self.ends(found), {trap + ".demo": "right"})
+        self.put(trap + ".out", content("one-join.out"))
+        self.many("--pairs", "--joblog", self.path("l " + trap), status=0, cwd=folder, env={"ARENA_CLI": program})
+        self.assertEqual([name for _, _, names in os.walk(self.folder) for name in names if name == "PWNED"], [])
 
     def test_what_is_no_recording(self):
         os.symlink("/none", os.path.join(self.recordings, "dangling.demo"))
@@ -195,6 +211,37 @@ class Many(Calls):
         out, found, _ = self.many("--joblog", log, "--resume", status=1)
         self.assertIn("4  before", out)
 
+    def test_results_that_are_damaged(self):
+        """Lines that are no result are passed over, and after one that was cut the next begins a line of its own."""
+        for name in ("a.demo", "b.demo", "c.demo"):
+            self.put(name, content("one-join.demo"))
+        log, results = self.path("jobs"), self.path("results")
+        self.many("--joblog", log, "-j", "1", status=0)
+        with open(results, "rb") as file:
+            first = file.readline()
+        odd = [b'{"name":"a.demo","end":"foo"}', b'{"name":"a.demo","end":"refused","fault":3}', b"[" * 9000, b'["name"]', b"3"]
+        odd += [b'{"name":["a.demo"],"end":"right"}', b'{"name":"a.demo","end":["right"]}', b'{"end":"right","refusals":"2"}']
+        self.path("results", first + b"\n".join([*odd, first[:9]]))
+        with open(log) as file:
+            lines = file.readlines()
+        self.path("jobs", "".join(lines[:2]).encode())
+        out = self.call("many", self.recordings, "--jsonl", results, "--joblog", log, "--resume", status=0)[0]
+        self.assertIn(b"3  right", out)
+        with open(results, "rb") as file:
+            self.assertEqual([json.loads(line)["end"] for line in file.readlines()[-2:]], ["right", "right"])
+
+    def test_a_line_without_an_end(self):
+        """A recording of zero bytes alone, a gigabyte of them, is refused without being read as one line."""
+        with open(os.path.join(self.recordings, "sparse.demo"), "wb") as file:
+            file.truncate(1 << 30)
+        self.put("packed.demo.gz", gzip.compress(b"x" * (1 << 24)))
+        self.put("sparse.out", b"")
+        self.put("packed.out", b"")
+        most = 600_000_000
+        for words in ([], ["--pairs"]):
+            limit = {"preexec_fn": lambda: resource.setrlimit(resource.RLIMIT_AS, (most, most))}
+            self.assertEqual(set(self.ends(self.many(*words, "-j", "1", status=1, **limit)[1]).values()), {"refused"})
+
     def test_a_signal_ends_all(self):
         """No program and no file is left by a signal, whichever it is."""
         marked = self.path("marked_program")
@@ -276,7 +323,8 @@ class Many(Calls):
         for name in ODD[:2] + ["plain.demo"]:
             self.put(name, content("duel.demo"))
         self.put("packed.demo.gz", gzip.compress(content("lift.demo")))
-        environment = {"PATH": f"{bins}:{os.environ['PATH']}", "FAR_HOME": home}
+        program = shutil.copy(PROGRAM, self.path("p {= qx(touch PWNED) =}\\n"))
+        environment = {"PATH": f"{bins}:{os.environ['PATH']}", "FAR_HOME": home, "ARENA_CLI": program}
         _, found, _ = self.many("--sshlogin", "far", "-j", "2", status=0, env=environment)
         self.assertEqual((len(found), set(self.ends(found).values())), (4, {"right"}))
         left = [name for _, _, files in os.walk(home) for name in files if "demo" in name or name == "many_job.py"]

@@ -38,6 +38,7 @@ class Names(Calls):
         self.path("crates/one/src/laws.rt", LAW)
         self.path("crates/one/specs/Keeping.antt", SPECS)
         self.path("crates/one/planted/sum_is_two.edit", b"bug: x\n")
+        self.path("crates/one/src/lib.rt", b"mod laws;\npub use laws::worlds_are_kept;\n")
         self.path("crates/two/src/lib.rt", b"pub fn play() {}\n")
         subprocess.run(["git", "init", "-q", self.folder], check=True)
 
@@ -93,6 +94,12 @@ class Names(Calls):
         for said in (b"1: there are 1 edits in planted, not 2", unsaid, b"2: there is no crate three", b"3: there is no add_two"):
             self.assertIn(b"docs/BUGS.md:" + said + b"\n", out)
         self.assertIn(b"a \\x1b.md:1: there is no add_two\n", out)
+
+    def test_a_hidden_law(self):
+        self.page("`World`\n")
+        self.path("crates/one/src/lib.rt", b"mod laws;\n")
+        hidden = b"crates/one/src/laws.rt: the crate doesn't show the law worlds_are_kept\n"
+        self.assertIn(hidden, self.names(status=1)[0])
 
     def test_what_a_user_does_wrong(self):
         self.page("`World`\n")

@@ -91,6 +91,13 @@ class Pictures(Calls):
         label = next(text for text in drawn.iter(SVG + "text") if text.text == "64")
         self.assertFalse(meet(room_of(label), (left, top, left + width, top + height)))
 
+    def test_depths_that_no_map_has(self):
+        for depth in (b"-1", b"2", b"60", b"2000"):
+            text = content("no-frame.demo").split(b"\n", 1)
+            path = self.path("deep.demo", b"\n".join([text[0], b"depth " + depth, text[1]]))
+            error = self.call("picture", path, example("no-frame.out"), status=1)[1]
+            self.assertIn(b"a tree has the depth 3, 4 or 5\n", error)
+
     def test_ways_and_long_names_at_a_height(self):
         for name in ("duel", "lift", "tour", "stairs"):
             self.cut(example(name + ".demo"), example(name + ".out"), "--height", "24")
@@ -115,7 +122,7 @@ class Pictures(Calls):
         cut = self.path("cut.out", content("duel.out")[: content("duel.out").index(b"end 48")])
         out, error, _ = self.call("picture", example("duel.demo"), cut, status=1)
         self.assertIn(b"</svg>", out)
-        self.assertIn(b"the output ends before its line `end`; what is there is drawn", error)
+        self.assertIn(b"the output ends before its line `end`; its whole frames are drawn", error)
         error, status = self.into_closed_pipe("picture", example("tour.demo"), example("tour.out"))
         self.assertEqual((error, status), (b"picture: the output was closed before all of it was written\n", 1))
 

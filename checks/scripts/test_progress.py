@@ -28,6 +28,11 @@ class Progress(Calls):
         _, error, _ = self.call("progress", "47", given=content("duel.out"), status=3)
         self.assertIn(b"the output has 48 frames, and 47 were awaited", error)
 
+    def test_an_end_without_its_frames(self):
+        for lines in (b"", b"frame 0\nframe 2\n"):
+            error = self.call("progress", "3", given=lines + b"end 3\n", status=3)[1]
+            self.assertIn(b"the output has %d lines `frame`, and its last line says 3" % lines.count(b"frame"), error)
+
     def test_wrong_words(self):
         for words in ([], ["x"], ["-1"], ["1", "2"], ["\u00b2"], ["9" * 5000]):
             self.call("progress", *words, status=2)

@@ -63,6 +63,9 @@ class Speed(Calls):
         self.assertEqual([case.name for case in recordings.on_maps(self.folder, 2)], ["map a", "map b"])
         error = self.speed("--quick", "--map", self.path("none"), "workers", status=1)[1]
         self.assertEqual(error, f"speed: {self.path('none')}: there is no map".encode())
+        bare = self.path("bare", content("arena.map").split(b"\n")[0] + b"\nend\n")
+        with self.assertRaisesRegex(FormatError, "nobody can walk on this map"):
+            list(recordings.on_maps(bare, 2))
 
     def test_a_table_and_what_else_ran(self):
         out, _ = self.speed("--quick", "once", "things", "copy", "--beside", PROGRAM, status=0)

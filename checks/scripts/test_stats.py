@@ -3,9 +3,13 @@ import csv
 import gzip
 import io
 import json
+import re
 import unittest
 
 from calls import Calls, content, example, run
+
+import arena
+import match
 
 
 class Stats(Calls):
@@ -92,6 +96,40 @@ class Stats(Calls):
         self.call("stats", example("duel.out"), status=1)
         error, status = self.into_closed_pipe("stats", example("duel.demo"), example("duel.out"))
         self.assertEqual((error, status), (b"stats: the output was closed before all of it was written\n", 1))
+
+    def test_damaged_outputs(self):
+        """Of these a reader knew nothing: what they lack is said by each script, in a sentence."""
+        duel, lift = content("duel.out"), content("lift.out")
+        to = re.search(rb"\nto 0 [0-9a-f]+", lift)[0]
+        for name, changed, why in (
+            ("duel", re.sub(rb"(\ndid .*) -\n", rb"\1 3,5\n", duel, 1), b"got 5, which is the id of no thing"),
+            ("duel", re.sub(rb"\nto 0 .*", b"", duel, 1), b"slot 0 joins, and has no snapshot"),
+            # The first bytes of an entity that is a lift, and not its place.
+            ("lift", lift.replace(to, to[:6 + 86] + b"400005", 1), b"bytes are no snapshot (Short)"),
+        ):
+            for script in ("stats", "replay", "picture"):
+                words = [example(name + ".demo"), self.path("damaged.out", changed)]
+                self.assertIn(why, self.call(script, *words, status=1)[1], script)
+
+    def test_outputs_that_are_cut(self):
+        """As a full disk leaves them: a frame without all of its lines isn't counted, and one with them all is."""
+        whole = content("two-players.out")
+        lines = whole.splitlines(keepends=True)
+        ends = [place for place, line in enumerate(lines) if line.startswith((b"frame ", b"end "))][1:]
+        for kept in range(len(lines)):
+            for more in (b"", lines[kept][:3]):
+                cut = self.path("cut.out", b"".join(lines[:kept]) + more)
+                output = match.Match(*self.readers("two-players", cut))
+                self.assertEqual(len(list(output.frames())), sum(end <= kept for end in ends), kept)
+        cut = self.path("cut.out", b"".join(lines[:8]))
+        self.assertEqual(len(self.counted(example("two-players.demo"), cut, status=1)["frames"]), 1)
+        self.call("picture", example("two-players.demo"), cut, status=1)
+        self.call("replay", example("two-players.demo"), cut, status=0)
+
+    def readers(self, name, output):
+        with open(output, "rb") as file:
+            data = file.read()
+        return arena.Recording(io.BytesIO(content(name + ".demo"))), arena.Output(io.BytesIO(data))
 
     def test_outputs_of_another_match(self):
         """Whose frames are others than the recording's, or have other numbers than their own."""

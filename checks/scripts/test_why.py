@@ -1,5 +1,6 @@
 """`why`: faults, rules of the map, encodings, and what a wrong output should have been."""
 import gzip
+import os
 import random
 import unittest
 
@@ -65,6 +66,32 @@ class Recordings(Calls):
         out, error, _ = self.call("why", self.path("evil.demo", b"arena \x1b]0;evil\x07\n\x9b31m\nend\n"), status=1)
         self.assertTrue(all(32 <= b <= 126 or b == 10 for b in out + error), out)
         self.assertIn(b"\\x1b]0;evil\\x07", out)
+
+    def test_a_program_that_is_killed(self):
+        killed = self.path("killed", b"#!/bin/sh\nkill -9 $$\n")
+        os.chmod(killed, 0o755)
+        out, error, _ = self.call("why", "--words", "play", "1", status=1, env={"ARENA_CLI": killed})
+        self.assertEqual((out, error.count(b"why: signal 9 ended the program")), (b"", 1))
+
+    def test_standard_input(self):
+        """`-` is one file that is read once, and else is refused, by each script that takes a recording and an output."""
+        demo, out, log = (example("two-players" + end) for end in (".demo", ".out", ".log"))
+        taken = [(demo, "why", "-"), (demo, "why", "-", out), (out, "why", demo, "-"), (log, "why", "--log", "-")]
+        taken += [(demo, "replay", "-", out), (out, "replay", demo, "-"), (demo, "picture", "-", out)]
+        taken += [(demo, "picture", "-", "--height", "24"), (demo, "stats", "-", out), (out, "stats", demo, "-")]
+        for path, *words in taken:
+            named = [path if word == "-" else word for word in words]
+            got, wanted = (self.call(*called, given=content(path), status=0)[0] for called in (words, named))
+            if words[0] in ("why", "stats"):
+                self.assertEqual(got, wanted, words)
+            else:
+                self.assertEqual(got.count(b"\n"), wanted.count(b"\n"), words)  # its title has the file's name
+        refused = [("why", "-", "-"), ("replay", "-"), ("replay", "-", "-"), ("picture", demo, "-"), ("picture", "-", "-")]
+        for words in refused + [("picture", demo, "-", "--height", "24"), ("stats", "-"), ("stats", "-", "-")]:
+            self.assertRegex(self.call(*words, given=content(demo), status=2)[1], rb"standard input")
+        unended = content("unfinished.demo")
+        wanted = self.call("why", example("unfinished.demo"), out, status=1)
+        self.assertEqual(self.call("why", "-", out, given=unended, status=1), wanted)
 
     def test_words(self):
         self.assertEqual(self.call("why", "--words", "play", "1", status=0)[0], b"the program takes these words\n")

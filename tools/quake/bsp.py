@@ -92,8 +92,10 @@ def curves_of(lumps: Lumps) -> list[list[Point]]:
         if kind != PATCH or not 0 <= shader < len(shaders):
             continue
         _, flags, contents = shaders[shader]
-        if not contents & 1 or flags & NON_SOLID or width * height != count or first + count > len(vertices):
+        if not contents & 1 or flags & NON_SOLID or width * height != count:
             continue
+        if not 0 <= first <= len(vertices) - count:
+            raise MapFault("it is broken: a curve names points that aren't there")
         controls = vertices[first : first + count]
         if not all(abs(part) <= MOST for at in controls for part in at):
             raise MapFault("it is broken: a curve has a number that no map has")

@@ -3,7 +3,8 @@ import re
 
 from .source import LAVA, MOST, PLAYER_CLIP, SLIME, SOLID, MapFault, Model, Source, brush_of
 
-NUMBER = r"(-?(?:[0-9]+\.?[0-9]*|\.[0-9]+)(?:[eE][-+]?[0-9]+)?)"
+# Each text has one way to be a number: a search of several ways takes time without bound in a line that is no plane.
+NUMBER = r"(-?(?:[0-9]+(?:\.[0-9]*)?|\.[0-9]+)(?:[eE][-+]?[0-9]+)?)"
 POINTS = re.compile(r"\(\s*" + r"\s*\)\s*\(\s*".join([r"\s+".join([NUMBER] * 3)] * 3) + r"\s*\)\s*(\S+)")
 PAIR = re.compile(r'"([^"]*)"\s+"([^"]*)"')
 # What a player goes through, by the end of its texture's name.

@@ -3,6 +3,8 @@ from dataclasses import dataclass, field
 
 # No number of a map is beyond this one.
 MOST = 1e9
+# Corners are looked for in a body of no more sides: the time grows with their fourth power, to a second or two for these.
+MOST_SIDES = 72
 SOLID = 1
 LAVA = 8
 SLIME = 16
@@ -122,6 +124,8 @@ def brush_of(planes, contents: int) -> Brush | None:
     box = axial_box(planes)
     is_box = all(is_axial(n) for n, _ in planes)
     if box is None:
+        if len(planes) > MOST_SIDES:
+            raise MapFault(f"a brush has {len(planes)} sides, and {MOST_SIDES} are the most where they are no box")
         points = corners(planes)
         if len(points) < 4:
             return None
