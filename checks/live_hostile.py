@@ -3,6 +3,7 @@ import asyncio
 import json
 import os
 import resource
+import select
 import socket
 import subprocess
 import sys
@@ -10,6 +11,8 @@ import tempfile
 import time
 
 import arena
+from arena_live.metrics import Metrics
+from arena_live.sessions import Sessions
 from live import LIVE, MAP, Front, memory_of, want
 
 UPGRADE = "Upgrade: websocket\r\nConnection: Upgrade\r\nSec-WebSocket-Version: 13\r\nSec-WebSocket-Key: AAAAAAAAAAAAAAAAAAAAAA==\r\n"
@@ -156,7 +159,68 @@ def odd_messages(front):
         link.send(token + arena.leave())
 
 
+def renewed_joins(front):
+    """Clients whose joins are refused have a new port in the same frame, and as many packets as before alone."""
+    links, until = [], time.monotonic() + 3
+    for _ in range(64):
+        link = socket.socket(socket.AF_INET, socket.SOCK_DGRAM)
+        link.connect(("127.0.0.1", front.udp))
+        link.setblocking(False)
+        link.send(bytes(16))
+        links.append(link)
+    tokens = {}
+    while time.monotonic() < until:
+        for link in select.select(links, [], [], 0.001)[0]:
+            message = link.recv(65_536)
+            if message[:1] == b"\x01" and message[1:17] != tokens.get(link):
+                tokens[link] = message[1:17]
+                for packet in (arena.join(), *[b"\x07"] * 6):
+                    link.send(tokens[link] + packet)
+        for link, token in tokens.items():
+            link.send(token + b"\x07")
+    for link in links:
+        link.close()
+    want(front.process.poll() is None, "clients whose joins are refused break the match off")
+
+
+def bounded_frame():
+    """A frame has 512 packets at most, with a leave of each player once, however its clients go."""
+    sessions, told = Sessions(Metrics(), 20), {}
+    for number in range(64):
+        sessions.open(number, "page", lambda message, to=number: told.update({to: message[1:17]}), 0.0)
+        sessions.receive(number, told[number] + arena.join(), 0.0)
+    sessions.take_arrivals()
+    sessions.strangers = list(range(1000, 1064))
+    for number in range(64):
+        for _ in range(9):
+            sessions.receive(number, told[number] + b"\x07", 0.0)
+        if number % 3 == 0:
+            sessions.close(number)
+    sessions.leave_all()
+    arrivals = sessions.take_arrivals()
+    leaving = [port for port, data in arrivals if data == arena.leave()]
+    want(len(arrivals) == 512, f"a frame has {len(arrivals)} packets")
+    want(len(leaving) == len(set(leaving)) == 128, f"128 players leave {len(leaving)} times")
+
+
+def hellos_alone(front):
+    """256 that only say hello keep nobody out, and one that has shown its token keeps its place."""
+    links = [socket.socket(socket.AF_INET, socket.SOCK_DGRAM) for _ in range(300)]
+    for link in links:
+        link.connect(("127.0.0.1", front.udp))
+        link.settimeout(2)
+    links[0].send(bytes(16))
+    links[0].send(links[0].recv(100)[1:17])
+    for link in links[1:]:
+        link.send(bytes(16))
+        want(link.recv(100)[:1] == b"\x01", "addresses that only say hello keep others out")
+    want(told(links[0], lambda message: message[:1] == b"\x04", 1) is None, "one that watches loses its place")
+    for link in links:
+        link.close()
+
+
 def try_hostile(words):
+    bounded_frame()
     with tempfile.TemporaryDirectory(prefix="live-") as top:
         hard = resource.getrlimit(resource.RLIMIT_NOFILE)
         resource.setrlimit(resource.RLIMIT_NOFILE, (FILES, hard[1]))
@@ -171,6 +235,8 @@ def try_hostile(words):
             held_connections(front)
             unanswered_hello(front)
             odd_messages(front)
+            hellos_alone(front)
+            renewed_joins(front)
             counts = front.metrics()
             text, status = front.end()
         late = counts["arena_late_frames_total"]
