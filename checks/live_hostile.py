@@ -5,6 +5,7 @@ import os
 import resource
 import select
 import socket
+import struct
 import subprocess
 import sys
 import tempfile
@@ -28,6 +29,9 @@ BAD_REQUESTS = {
     "a body": b"POST /map HTTP/1.1\r\nHost: 127.0.0.1\r\nContent-Length: 1000000000\r\n\r\n" + b"a" * 100_000,
     "bytes 0": bytes(1000) + b"\r\n\r\n",
 }
+HEAD = b"GET /live HTTP/1.1\r\nHost: 127.0.0.1\r\n"
+BAD_REQUESTS["a key that isn't of ASCII"] = HEAD + UPGRADE.encode().replace(b"Key: A", b"Key: \xe9") + b"\r\n"
+BAD_REQUESTS["another upgrade"] = HEAD + UPGRADE.encode().replace(b"websocket", b"web\xdfocket") + b"\r\n"
 FILES = 256
 
 
@@ -46,6 +50,52 @@ def bad_requests(front):
             except OSError:
                 said = b""
         want(said == b"" or said[9:10] == b"4", f"{name} is answered by {said[:60]}")
+
+
+def page_socket(front, header=""):
+    """A socket as a page has it, welcomed, or as far as it was answered."""
+    link = connected(front)
+    link.sendall(f"GET /live HTTP/1.1\r\nHost: 127.0.0.1:{front.http}\r\n{header}{UPGRADE}\r\n".encode())
+    return link
+
+
+def reset(link):
+    link.setsockopt(socket.SOL_SOCKET, socket.SO_LINGER, struct.pack("ii", 1, 0))
+    link.close()
+
+
+def resets(front):
+    """Connections that are reset at once, and while they are answered."""
+    page_socket(front, "Sec-WebSocket-Protocol: words-of-a-client\r\n").close()
+    for _ in range(40):
+        reset(page_socket(front))
+        link = page_socket(front)
+        link.recv(4096)
+        link.sendall(b"\x89\x80\0\0\0\0" * 30)
+        reset(link)
+
+
+def files_of(process):
+    return len(os.listdir(f"/proc/{process.pid}/fd"))
+
+
+def unread_page(front):
+    """A page that reads nothing, and then says something odd, is gone soon."""
+    before = files_of(front.process)
+    with socket.socket() as link:
+        link.setsockopt(socket.SOL_SOCKET, socket.SO_RCVBUF, 2048)
+        link.settimeout(5)
+        link.connect(("127.0.0.1", front.http))
+        link.sendall(HEAD + UPGRADE.encode() + b"\r\n")
+        token = link.recv(4096).split(b"\r\n\r\n")[1][3:19]
+        for _ in range(50):
+            link.sendall(b"\x82\x90\0\0\0\0" + token)
+            # What it isn't sent is dropped, and so the answers to its pings fill what the system keeps for it.
+            link.sendall((b"\x89\xfd\0\0\0\0" + bytes(125)) * 50)
+            time.sleep(0.06)
+        link.sendall(b"\x81\x80\0\0\0\0")
+        time.sleep(4)
+        want(files_of(front.process) <= before, "a page that reads nothing keeps its socket")
 
 
 def requests_without_end(front):
@@ -230,6 +280,8 @@ def try_hostile(words):
             resource.setrlimit(resource.RLIMIT_NOFILE, hard)
         with front:
             bad_requests(front)
+            resets(front)
+            unread_page(front)
             requests_without_end(front)
             asyncio.run(floods(front.http))
             held_connections(front)
