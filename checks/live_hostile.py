@@ -10,10 +10,13 @@ import subprocess
 import sys
 import tempfile
 import time
+from types import SimpleNamespace
 
 import arena
+from arena_live.guard import GOODBYE_SECONDS, Guard
 from arena_live.metrics import Metrics
 from arena_live.sessions import Sessions
+from arena_live.web import Web
 from live import LIVE, MAP, Front, memory_of, want
 
 UPGRADE = "Upgrade: websocket\r\nConnection: Upgrade\r\nSec-WebSocket-Version: 13\r\nSec-WebSocket-Key: AAAAAAAAAAAAAAAAAAAAAA==\r\n"
@@ -75,27 +78,38 @@ def resets(front):
         reset(link)
 
 
-def files_of(process):
-    return len(os.listdir(f"/proc/{process.pid}/fd"))
+class Narrow(Web):
+    """It keeps little for a page that doesn't read."""
+
+    def _connection(self):
+        guard = super()._connection()
+
+        def made(transport):
+            transport.get_extra_info("socket").setsockopt(socket.SOL_SOCKET, socket.SO_SNDBUF, 4096)
+            Guard.connection_made(guard, transport)
+
+        guard.connection_made = made
+        return guard
 
 
-def unread_page(front):
-    """A page that reads nothing, and then says something odd, is gone soon."""
-    before = files_of(front.process)
-    with socket.socket() as link:
-        link.setsockopt(socket.SOL_SOCKET, socket.SO_RCVBUF, 2048)
-        link.settimeout(5)
-        link.connect(("127.0.0.1", front.http))
-        link.sendall(HEAD + UPGRADE.encode() + b"\r\n")
-        token = link.recv(4096).split(b"\r\n\r\n")[1][3:19]
-        for _ in range(50):
-            link.sendall(b"\x82\x90\0\0\0\0" + token)
-            # What it isn't sent is dropped, and so the answers to its pings fill what the system keeps for it.
-            link.sendall((b"\x89\xfd\0\0\0\0" + bytes(125)) * 50)
-            time.sleep(0.06)
-        link.sendall(b"\x81\x80\0\0\0\0")
-        time.sleep(4)
-        want(files_of(front.process) <= before, "a page that reads nothing keeps its socket")
+async def unread_page():
+    """A page that reads nothing, and then says what no page does, is gone soon."""
+    sessions = Sessions(Metrics(), 20)
+    web = Narrow(SimpleNamespace(lines=[]), sessions, Metrics())
+    _, writer = await asyncio.open_connection("127.0.0.1", await web.listen("127.0.0.1", 0))
+    writer.transport.pause_reading()
+    writer.write(HEAD + UPGRADE.encode() + b"\r\n")
+    await asyncio.sleep(0.5)
+    for session in sessions:
+        for _ in range(500):
+            sessions.tell(session, bytes(10_000))
+            await asyncio.sleep(0)
+    want(len(web._guards) == 1, "a page that reads nothing isn't connected")
+    writer.write(b"\x81\x80\0\0\0\0")
+    await asyncio.sleep(GOODBYE_SECONDS + 1)
+    want(not web._guards, "a page that reads nothing keeps its socket")
+    writer.close()
+    await web.close()
 
 
 def requests_without_end(front):
@@ -271,6 +285,7 @@ def hellos_alone(front):
 
 def try_hostile(words):
     bounded_frame()
+    asyncio.run(unread_page())
     with tempfile.TemporaryDirectory(prefix="live-") as top:
         hard = resource.getrlimit(resource.RLIMIT_NOFILE)
         resource.setrlimit(resource.RLIMIT_NOFILE, (FILES, hard[1]))
@@ -281,7 +296,6 @@ def try_hostile(words):
         with front:
             bad_requests(front)
             resets(front)
-            unread_page(front)
             requests_without_end(front)
             asyncio.run(floods(front.http))
             held_connections(front)
