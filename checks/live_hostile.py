@@ -3,13 +3,20 @@ import asyncio
 import json
 import os
 import resource
+import select
 import socket
+import struct
 import subprocess
 import sys
 import tempfile
 import time
+from types import SimpleNamespace
 
 import arena
+from arena_live.guard import GOODBYE_SECONDS, Guard
+from arena_live.metrics import Metrics
+from arena_live.sessions import Sessions
+from arena_live.web import Web
 from live import LIVE, MAP, Front, memory_of, want
 
 UPGRADE = "Upgrade: websocket\r\nConnection: Upgrade\r\nSec-WebSocket-Version: 13\r\nSec-WebSocket-Key: AAAAAAAAAAAAAAAAAAAAAA==\r\n"
@@ -25,6 +32,9 @@ BAD_REQUESTS = {
     "a body": b"POST /map HTTP/1.1\r\nHost: 127.0.0.1\r\nContent-Length: 1000000000\r\n\r\n" + b"a" * 100_000,
     "bytes 0": bytes(1000) + b"\r\n\r\n",
 }
+HEAD = b"GET /live HTTP/1.1\r\nHost: 127.0.0.1\r\n"
+BAD_REQUESTS["a key that isn't of ASCII"] = HEAD + UPGRADE.encode().replace(b"Key: A", b"Key: \xe9") + b"\r\n"
+BAD_REQUESTS["another upgrade"] = HEAD + UPGRADE.encode().replace(b"websocket", b"web\xdfocket") + b"\r\n"
 FILES = 256
 
 
@@ -43,6 +53,63 @@ def bad_requests(front):
             except OSError:
                 said = b""
         want(said == b"" or said[9:10] == b"4", f"{name} is answered by {said[:60]}")
+
+
+def page_socket(front, header=""):
+    """A socket as a page has it, welcomed, or as far as it was answered."""
+    link = connected(front)
+    link.sendall(f"GET /live HTTP/1.1\r\nHost: 127.0.0.1:{front.http}\r\n{header}{UPGRADE}\r\n".encode())
+    return link
+
+
+def reset(link):
+    link.setsockopt(socket.SOL_SOCKET, socket.SO_LINGER, struct.pack("ii", 1, 0))
+    link.close()
+
+
+def resets(front):
+    """Connections that are reset at once, and while they are answered."""
+    page_socket(front, "Sec-WebSocket-Protocol: words-of-a-client\r\n").close()
+    for _ in range(40):
+        reset(page_socket(front))
+        link = page_socket(front)
+        link.recv(4096)
+        link.sendall(b"\x89\x80\0\0\0\0" * 30)
+        reset(link)
+
+
+class Narrow(Web):
+    """It keeps little for a page that doesn't read."""
+
+    def _connection(self):
+        guard = super()._connection()
+
+        def made(transport):
+            transport.get_extra_info("socket").setsockopt(socket.SOL_SOCKET, socket.SO_SNDBUF, 4096)
+            Guard.connection_made(guard, transport)
+
+        guard.connection_made = made
+        return guard
+
+
+async def unread_page():
+    """A page that reads nothing, and then says what no page does, is gone soon."""
+    sessions = Sessions(Metrics(), 20)
+    web = Narrow(SimpleNamespace(lines=[]), sessions, Metrics())
+    _, writer = await asyncio.open_connection("127.0.0.1", await web.listen("127.0.0.1", 0))
+    writer.transport.pause_reading()
+    writer.write(HEAD + UPGRADE.encode() + b"\r\n")
+    await asyncio.sleep(0.5)
+    for session in sessions:
+        for _ in range(500):
+            sessions.tell(session, bytes(10_000))
+            await asyncio.sleep(0)
+    want(len(web._guards) == 1, "a page that reads nothing isn't connected")
+    writer.write(b"\x81\x80\0\0\0\0")
+    await asyncio.sleep(GOODBYE_SECONDS + 1)
+    want(not web._guards, "a page that reads nothing keeps its socket")
+    writer.close()
+    await web.close()
 
 
 def requests_without_end(front):
@@ -156,7 +223,69 @@ def odd_messages(front):
         link.send(token + arena.leave())
 
 
+def renewed_joins(front):
+    """Clients whose joins are refused have a new port in the same frame, and as many packets as before alone."""
+    links, until = [], time.monotonic() + 3
+    for _ in range(64):
+        link = socket.socket(socket.AF_INET, socket.SOCK_DGRAM)
+        link.connect(("127.0.0.1", front.udp))
+        link.setblocking(False)
+        link.send(bytes(16))
+        links.append(link)
+    tokens = {}
+    while time.monotonic() < until:
+        for link in select.select(links, [], [], 0.001)[0]:
+            message = link.recv(65_536)
+            if message[:1] == b"\x01" and message[1:17] != tokens.get(link):
+                tokens[link] = message[1:17]
+                for packet in (arena.join(), *[b"\x07"] * 6):
+                    link.send(tokens[link] + packet)
+        for link, token in tokens.items():
+            link.send(token + b"\x07")
+    for link in links:
+        link.close()
+    want(front.process.poll() is None, "clients whose joins are refused break the match off")
+
+
+def bounded_frame():
+    """A frame has 512 packets at most, with a leave of each player once, however its clients go."""
+    sessions, told = Sessions(Metrics(), 20), {}
+    for number in range(64):
+        sessions.open(number, "page", lambda message, to=number: told.update({to: message[1:17]}), 0.0)
+        sessions.receive(number, told[number] + arena.join(), 0.0)
+    sessions.take_arrivals()
+    sessions.strangers = list(range(1000, 1064))
+    for number in range(64):
+        for _ in range(9):
+            sessions.receive(number, told[number] + b"\x07", 0.0)
+        if number % 3 == 0:
+            sessions.close(number)
+    sessions.leave_all()
+    arrivals = sessions.take_arrivals()
+    leaving = [port for port, data in arrivals if data == arena.leave()]
+    want(len(arrivals) == 512, f"a frame has {len(arrivals)} packets")
+    want(len(leaving) == len(set(leaving)) == 128, f"128 players leave {len(leaving)} times")
+
+
+def hellos_alone(front):
+    """256 that only say hello keep nobody out, and one that has shown its token keeps its place."""
+    links = [socket.socket(socket.AF_INET, socket.SOCK_DGRAM) for _ in range(300)]
+    for link in links:
+        link.connect(("127.0.0.1", front.udp))
+        link.settimeout(2)
+    links[0].send(bytes(16))
+    links[0].send(links[0].recv(100)[1:17])
+    for link in links[1:]:
+        link.send(bytes(16))
+        want(link.recv(100)[:1] == b"\x01", "addresses that only say hello keep others out")
+    want(told(links[0], lambda message: message[:1] == b"\x04", 1) is None, "one that watches loses its place")
+    for link in links:
+        link.close()
+
+
 def try_hostile(words):
+    bounded_frame()
+    asyncio.run(unread_page())
     with tempfile.TemporaryDirectory(prefix="live-") as top:
         hard = resource.getrlimit(resource.RLIMIT_NOFILE)
         resource.setrlimit(resource.RLIMIT_NOFILE, (FILES, hard[1]))
@@ -166,11 +295,14 @@ def try_hostile(words):
             resource.setrlimit(resource.RLIMIT_NOFILE, hard)
         with front:
             bad_requests(front)
+            resets(front)
             requests_without_end(front)
             asyncio.run(floods(front.http))
             held_connections(front)
             unanswered_hello(front)
             odd_messages(front)
+            hellos_alone(front)
+            renewed_joins(front)
             counts = front.metrics()
             text, status = front.end()
         late = counts["arena_late_frames_total"]

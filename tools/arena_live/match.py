@@ -30,8 +30,7 @@ class Match:
         self._sessions, self._metrics = sessions, metrics
         self.saved, self.pipe, self._roll = start.saved, start.pipe, start.roll
         self._events = Events(ground.map)
-        # Players of before a resume, whose clients are gone: they leave in the first frame.
-        self._strangers = list(start.roll.slots)
+        sessions.strangers = list(start.roll.slots)
         self.frame = sessions.frame = start.frame
 
     @staticmethod
@@ -65,8 +64,6 @@ class Match:
     async def _play_frame(self, closing: bytes) -> None:
         """Closes the open frame with the packets that came, plays it and tells the clients what came of it."""
         arrivals = self._sessions.take_arrivals()
-        arrivals += [(port, arena.leave()) for port in self._strangers]
-        self._strangers = []
         text = frame_text(arrivals, closing)
         self.saved.add_packets(text)
         self._roll.begin(len(arrivals), leaves_of(arrivals))

@@ -47,6 +47,7 @@ class Metrics:
             "arena_bytes_in_total": "Bytes of messages from clients.",
             "arena_bytes_out_total": "Bytes of messages to clients.",
             "arena_dropped_messages_total": "Messages that a slow page, or a full socket, didn't take.",
+            "arena_unshown_total": "Faults in connections, as requests of another form, which nobody is shown.",
         }
         for name, text in helps.items():
             yield from (f"# HELP {name} {text}", f"# TYPE {name} counter", f"{name} {self.counts[name]}")

@@ -22,6 +22,8 @@ NO_TOKEN = bytes(TOKEN_BYTES)
 MOST_MESSAGE = 256
 MOST_PLAYERS, MOST_WATCHERS = 64, 256
 PACKETS_A_FRAME, MOVES_A_FRAME = 7, 8
+# Packets of all, which is as many as the program takes in a frame: a leave of each player among them always fits.
+MOST_PACKETS = 512
 # Names of refusals that a client is told at once.
 MOST_TOLD = 64
 # A second of moves at once at the most, and no more than the time that has passed.
@@ -47,7 +49,7 @@ class Session:
     slot: Optional[int] = None
     watched: int = 0
     newest: int = 0  # number of the last command that was sent on
-    packets: int = 0  # in the open frame, those that weren't recorded too
+    packets: int = 0  # in the open frame, those that weren't recorded and those of the port of before too
     moves: int = 0
     credit: float = CREDIT_MS
     credited: float = 0.0
@@ -73,6 +75,8 @@ class Sessions:
         self._ports: Dict[int, Session] = {}
         self._last_port = -1
         self.arrivals: List[Tuple[int, bytes]] = []
+        # Ports of players of before a resume, whose clients are gone: they leave in the open frame.
+        self.strangers: List[int] = []
         self.frame = 0
 
     def __iter__(self):
@@ -95,7 +99,7 @@ class Sessions:
         """A new client, or the one of this address, is welcomed. None where there are as many as may be."""
         session = self._by_address.get(address)
         if session is None:
-            if self.watchers >= MOST_WATCHERS and kind != "bot":
+            if self.watchers >= MOST_WATCHERS and kind != "bot" and not self._make_place():
                 self._metrics.refusals["front-full"] += 1
                 send(GOODBYE + b"full")
                 return None
@@ -104,6 +108,14 @@ class Sessions:
             self._renew(session)
         self.welcome(session)
         return session
+
+    def _make_place(self) -> bool:
+        """Takes out the client that has been there the longest without its token, which may have said hello for others."""
+        unknown = next((one for one in self._by_address.values() if not one.is_known), None)
+        if unknown is not None:
+            self._metrics.refusals["front-full"] += 1
+            self.close(unknown.address)
+        return unknown is not None
 
     def receive(self, address: Hashable, data: bytes, now: float) -> None:
         """A message from this address; what isn't allowed is counted, and changes nothing else."""
@@ -134,9 +146,9 @@ class Sessions:
         if session is None:
             return
         del self._by_token[session.token]
-        if session.plays and not session.leaves:
-            self._add(session, arena.leave())
-        if not session.plays:
+        if session.plays:
+            self._take_out(session)
+        else:
             del self._ports[session.port]
 
     def drop_silent(self, now: float) -> None:
@@ -170,8 +182,12 @@ class Sessions:
                 return "front-not-joined"
             if self.players >= MOST_PLAYERS:
                 return "front-players"
+            if not self._has_room(2):  # for its leave too
+                return "front-packets"
             session.plays = True
             return None
+        if data != arena.leave() and not self._has_room(1):
+            return "front-packets"
         try:
             packet = arena.read_packet(data)
         except arena.PacketFault:
@@ -185,9 +201,20 @@ class Sessions:
             session.newest = fresh[-1].number
         return None
 
+    def _has_room(self, packets: int) -> bool:
+        """Whether the open frame has room for so many packets beside the leaves that are still to come."""
+        room = MOST_PACKETS - len(self.arrivals) - len(self.strangers) - packets
+        # There are no more leaves than places, so they are counted only where it is close.
+        return room >= MOST_PLAYERS or room >= sum(one.plays and not one.leaves for one in self._ports.values())
+
     def _add(self, session: Session, data: bytes) -> None:
         self.arrivals.append((session.port, data))
-        self._metrics.counts["arena_packets_total"] += 1
+
+    def _take_out(self, session: Session) -> None:
+        """A player leaves in the open frame, if it doesn't already."""
+        if not session.leaves:
+            session.leaves = True
+            self._add(session, arena.leave())
 
     def _refuse(self, session: Optional[Session], name: str) -> None:
         self._metrics.refusals[name] += 1
@@ -198,7 +225,9 @@ class Sessions:
 
     def take_arrivals(self) -> List[Tuple[int, bytes]]:
         """The packets of the open frame, which is closed now; each client may send as many again in the next."""
-        arrivals, self.arrivals = self.arrivals, []
+        arrivals = self.arrivals + [(port, arena.leave()) for port in self.strangers]
+        self.arrivals, self.strangers = [], []
+        self._metrics.counts["arena_packets_total"] += len(arrivals)
         self.frame += 1
         for session in self._ports.values():
             session.packets = session.moves = 0
@@ -216,6 +245,10 @@ class Sessions:
     def left(self, port: int) -> None:
         """The player of this port has left, or its join was refused: the client watches, with a new token and port."""
         session = self._ports.pop(port, None)
+        # What came while the frame was played has no player any more.
+        waiting = [arrival for arrival in self.arrivals if arrival[0] != port]
+        self._metrics.refusals["front-token"] += len(self.arrivals) - len(waiting)
+        self.arrivals = waiting
         if session is not None and self._by_address.get(session.address) is session:
             del self._by_token[session.token]
             self._renew(session)
@@ -229,9 +262,8 @@ class Sessions:
     def leave_all(self) -> None:
         """All that play leave, in the open frame."""
         for session in list(self._ports.values()):
-            if session.plays and not session.leaves:
-                session.leaves = True
-                self._add(session, arena.leave())
+            if session.plays:
+                self._take_out(session)
 
     # What clients are told.
 
@@ -257,6 +289,6 @@ class Sessions:
             port for port in ((self._last_port + step) % 65536 for step in range(1, 65537)) if port not in self._ports
         )
         session.port, session.slot, session.plays, session.leaves = self._last_port, None, False, False
-        session.newest = session.packets = session.moves = 0
+        session.newest = session.moves = 0
         self._by_token[session.token] = session
         self._ports[session.port] = session

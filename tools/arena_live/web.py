@@ -10,7 +10,6 @@ from typing import Dict
 from urllib.parse import urlsplit
 
 from aiohttp import WSMsgType, web
-from aiohttp.http import HttpProcessingError
 
 from arena_live.guard import GOODBYE_SECONDS, Full, Guard
 from arena_live.match import Arena
@@ -39,8 +38,23 @@ MOST_WAITING = 40
 MOST_RECEIVED = 64
 # Connections at once. Where the system grants few files, so many are for the match, and for connections that are refused.
 MOST_CONNECTIONS, LEAST_CONNECTIONS, OTHER_FILES = 400, 16, 160
+LOGGERS = ("aiohttp.access", "aiohttp.internal", "aiohttp.server", "aiohttp.web", "aiohttp.websocket", "asyncio")
 # Connections that are taken in a row.
 BACKLOG = 32
+
+
+class Unshown(logging.Handler):
+    """Counts what would be logged. Clients bring it about, as often as they like, and it has words of theirs in it.
+
+    So the operator isn't shown it, nor does the clock wait where nobody reads standard error.
+    """
+
+    def __init__(self, metrics: Metrics):
+        super().__init__(logging.WARNING)
+        self._metrics = metrics
+
+    def emit(self, _record: logging.LogRecord) -> None:
+        self._metrics.counts["arena_unshown_total"] += 1
 
 
 class Outbox:
@@ -61,7 +75,7 @@ class Outbox:
     async def send_to(self, socket: web.WebSocketResponse) -> None:
         """Sends until the last message, a goodbye, or until nobody is there any more."""
         message = b""
-        with suppress(ConnectionResetError):
+        with suppress(OSError):
             while message[:1] != GOODBYE:
                 message = await self._queue.get()
                 await socket.send_bytes(message)
@@ -86,8 +100,9 @@ class Web:
         for path in FILES:
             app.router.add_get(path, self._send_file)
         app.on_response_prepare.append(_add_headers)
-        logging.getLogger("aiohttp.server").addFilter(_is_our_fault)
-        logging.getLogger("asyncio").setLevel(logging.ERROR)
+        for name in LOGGERS:
+            logger = logging.getLogger(name)
+            logger.handlers, logger.propagate = [Unshown(self._metrics)], False
         self._runner = web.AppRunner(app, access_log=None)
         await self._runner.setup()
         self._server = await asyncio.get_running_loop().create_server(self._connection, bind, port, backlog=BACKLOG)
@@ -127,7 +142,10 @@ class Web:
         if guard is None:
             raise web.HTTPForbidden(text="the page is gone\n")
         socket = web.WebSocketResponse(max_msg_size=MOST_MESSAGE, compress=False, autoping=False, timeout=GOODBYE_SECONDS)
-        await socket.prepare(request)
+        try:
+            await socket.prepare(request)
+        except (OSError, ValueError):  # It is gone, or a header isn't of ASCII.
+            raise web.HTTPBadRequest(text="this asks for no socket\n") from None
         guard.is_socket = True
         outbox, address = Outbox(self._metrics, guard), ("page", next(self._numbers))
         sending = asyncio.create_task(outbox.send_to(socket))
@@ -136,10 +154,14 @@ class Web:
                 await sending
                 return socket
             await self._receive(socket, address, guard)
+        except OSError:
+            pass  # The page is gone.
         finally:
             self._sessions.close(address)
             sending.cancel()
-            await socket.close()
+            guard.end_soon()  # One that reads nothing never takes what is still to be sent.
+            with suppress(OSError):
+                await socket.close()
         return socket
 
     async def _receive(self, socket: web.WebSocketResponse, address: tuple, guard: Guard) -> None:
@@ -180,8 +202,3 @@ async def _add_headers(_request: web.Request, response: web.StreamResponse) -> N
     if not isinstance(response, web.WebSocketResponse):
         response.force_close()
         response.headers["Connection"] = "close"
-
-
-def _is_our_fault(record: logging.LogRecord) -> bool:
-    """Whether it isn't a request of another form, of which anybody may send as many as they like."""
-    return not (record.exc_info and isinstance(record.exc_info[1], HttpProcessingError))
