@@ -163,7 +163,7 @@ class Live:
         folder = self._folder
         if self._judging:
             numbered = (f"{self._folder.rstrip('/')}-{number}" for number in itertools.count(2))
-            folder = next(folder for folder in numbered if not os.path.exists(folder))
+            folder = next(folder for folder in numbered if not os.path.lexists(folder))
         saved = Saved.create(folder, ground.lines, Settings(self._words.workers, sessions.hz))
         return await Match.begin(ground, sessions, self._metrics, saved)
 

@@ -14,7 +14,7 @@ from typing import BinaryIO, Dict, Iterator, List, Optional, Tuple
 import arena
 from arena_live.pipe import CHUNK, Pipe
 from arena_live.roll import Roll, leaves_of
-from arena_live.saved import Saved, SaveFault, Settings, frame_text
+from arena_live.saved import Saved, SaveFault, Settings, frame_text, open_plain
 from expected import in_turns
 
 FRAME = b"frame\n"
@@ -58,7 +58,7 @@ async def resume(folder: str, program: str) -> Start:
 
 def _cut_open_frame(path: str) -> None:
     """Cuts what follows the last line `frame`: packets of a frame that was never run, the last one perhaps in part."""
-    with open(path, "r+b") as file:
+    with open_plain(path, "r+b") as file:
         size = file.seek(0, os.SEEK_END)
         file.seek(max(0, size - CHUNK))
         tail = file.read()
@@ -90,7 +90,7 @@ async def _replay(saved: Saved, pipe: Pipe) -> Tuple[Roll, int]:
     rest = os.path.getsize(saved.output_path)  # of what was saved
     feeding = asyncio.create_task(_feed(saved.recording_path, pipe))
     try:
-        with open(saved.recording_path, "rb") as recording, open(saved.output_path, "rb") as output:
+        with open_plain(saved.recording_path, "rb") as recording, open_plain(saved.output_path, "rb") as output:
             for lines in _frames(recording):
                 leaves = {place: int(line.split()[1]) for place, line in enumerate(lines) if line.endswith(b" 0103\n")}
                 roll.begin(len(lines), leaves)
@@ -113,7 +113,7 @@ async def _replay(saved: Saved, pipe: Pipe) -> Tuple[Roll, int]:
 
 
 async def _feed(path: str, pipe: Pipe) -> None:
-    with open(path, "rb") as file:
+    with open_plain(path, "rb") as file:
         while chunk := file.read(CHUNK):
             await pipe.send(chunk)
 
@@ -121,10 +121,10 @@ async def _feed(path: str, pipe: Pipe) -> None:
 def _rewrite_in_order(saved: Saved) -> None:
     """Writes two files of the same match as one worker plays it, which are the match's from then on."""
     numbers = (f"match-{number}" for number in range(2, 1 << 20))
-    name = next(name for name in numbers if not os.path.exists(os.path.join(saved.folder, name + ".demo")))
-    path = os.path.join(saved.folder, name)
-    with open(saved.recording_path, "rb") as recording, open(saved.output_path, "rb") as output:
-        with open(path + ".demo", "wb") as new_recording, open(path + ".out", "wb") as new_output:
+    name = next(name for name in numbers if not any(map(os.path.lexists, saved.paths(name))))
+    new_recording_path, new_output_path = saved.paths(name)
+    with open_plain(saved.recording_path, "rb") as recording, open_plain(saved.output_path, "rb") as output:
+        with open_plain(new_recording_path, "xb") as new_recording, open_plain(new_output_path, "xb") as new_output:
             _write_in_order(recording, output, new_recording, new_output)
     saved.settings = Settings(1, saved.settings.hz, name)
     saved.write_settings()
