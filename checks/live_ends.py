@@ -1,4 +1,5 @@
-"""Folders that lead elsewhere, for `checks/live`."""
+"""How the front ends where it isn't by its clock, for `checks/live`: by kills in the last frame, and folders that lead
+elsewhere."""
 import json
 import os
 import shutil
@@ -116,3 +117,81 @@ def links_to_nothing(whole, outside):
         os.symlink(os.path.join(outside, name), os.path.join(new, name))
         text, status = ended(begun(MAP, "--frames", "2", "--save", new))
         want(status == 2 and "Traceback" not in text, f"a link {name} where a match is saved: status {status}, {text}")
+
+
+# The last frame.
+
+
+def last_frames():
+    """A match that is killed in its last frame or after it is resumed at each point, and right."""
+    with tempfile.TemporaryDirectory(prefix="live-") as top:
+        for workers in (1, 3):
+            whole = os.path.join(top, f"whole-{workers}")
+            played(whole, "--workers", str(workers))
+            for folder, text, status in all_resumed(last_frame_cuts(whole)):
+                is_right = "right: `audit` says: right frames 60 " in text
+                want(status == 0 and is_right, f"{folder}, with {workers} workers, is resumed: status {status}, {text}")
+                is_same = bytes_of(folder, "match.out") == bytes_of(whole, "match.out")
+                want(is_same or workers > 1 or "recording" in folder, f"the output of {folder} isn't what it was")
+        whole = os.path.join(top, "whole-1")
+        text, status = ended(begun("--resume", whole + "-nothing"))
+        want(status == 2 and "the match was over" in text, f"a match that is whole: status {status}, {text}")
+        unlike(whole)
+        longest_match(top)
+    print("killed: matches cut in their last frame were resumed, with 1 and 3 workers, and one in its 100,000th")
+
+
+def last_frame_cuts(whole):
+    """Copies of a match, by what is left of its output, or of its recording."""
+    demo, out = bytes_of(whole, "match.demo"), bytes_of(whole, "match.out")
+    last = out.rindex(b"\nframe 59\n") + 1
+    for name, length in {"end": len(out) - 1, "line": len(out) - 60, "frame": last, "nothing": 0}.items():
+        yield copied(whole, name, demo, out[:length])
+    for name, length in {"end": len(demo) - 2, "packets": demo.rindex(b"\nframe\n") + 9}.items():
+        yield copied(whole, "recording-" + name, demo[:length], out[:last])
+
+
+def all_resumed(folders):
+    """All are resumed at once: each with what was said, and the status."""
+    runs = [(folder, begun("--resume", folder, "--frames", "60")) for folder in folders]
+    return [(folder, *ended(run, 60)) for folder, run in runs]
+
+
+def copied(whole, name, demo, out):
+    folder = f"{whole}-{name}"
+    shutil.copytree(whole, folder)
+    put(demo, folder, "match.demo")
+    put(out, folder, "match.out")
+    return folder
+
+
+def unlike(whole):
+    """An output that lacks its end isn't called wrong, and one that isn't the program's doesn't get it."""
+    demo, out = bytes_of(whole, "match.demo"), bytes_of(whole, "match.out")
+    folder = copied(whole, "short", demo, out[:-7])
+    text, status = ended(begun("--judge", folder))
+    is_said = "not judged" in text and f"`--resume {folder}`" in text
+    want(status == 4 and is_said, f"a short output: status {status}, {text}")
+    folder = copied(whole, "unlike", demo, out[:-60].replace(b"\nto 0 ", b"\nto 1 ", 1))
+    text, status = ended(begun("--resume", folder))
+    want(status == 2 and "isn't what the program answers" in text, f"a changed output: status {status}, {text}")
+
+
+def idle(folder, frames, workers, closing=b""):
+    """A saved match in which nobody plays, with this after its last line `frame`."""
+    os.mkdir(folder)
+    lines = bytes_of(MAP).removesuffix(b"end\n")
+    put(lines + b"frame\n" * frames + closing, folder, "match.demo")
+    put(b"".join(b"frame %d\n" % number for number in range(frames - 1)), folder, "match.out")
+    put(json.dumps({"workers": workers, "hz": 100, "name": "match"}).encode(), folder, "match.json")
+
+
+def longest_match(top):
+    """One that was killed in its 100,000th frame, the last that the program takes, has no more; the next begins."""
+    folder, settings = os.path.join(top, "longest"), os.path.join(top, "longest-2", "match.json")
+    idle(folder, 100_000, 1, b"from 0 ")
+    with Front("--resume", folder) as front:
+        until(lambda: os.path.exists(settings), "after 100,000 frames no other match begins")
+        text, status = front.end()
+    is_right = "right: `audit` says: right frames 100000 moves 0" in text
+    want(status == 0 and is_right and text.count("right:") == 2, f"a match of 100,000 frames: status {status}, {text}")

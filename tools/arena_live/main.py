@@ -125,6 +125,11 @@ class Live:
         if words.resume is not None:
             resumed = await resume(words.resume, program.PROGRAM)
             try:
+                if resumed.is_over:
+                    resumed.saved.close()
+                    say(f"the match was over; {resumed.saved.output_path} has now what it lacked")
+                    self._judging.append(asyncio.create_task(judge(program.PROGRAM, resumed.saved)))
+                    return
                 ground = Arena(*read_map(resumed.saved.recording_path), program.PROGRAM)
                 sessions = Sessions(self._metrics, resumed.saved.settings.hz)
                 say(f"resumed at frame {resumed.frame}")
@@ -208,7 +213,8 @@ class Live:
         times = ", ".join(f"{name} {1000 * self._metrics.quantile(part):.1f}" for name, part in parts.items())
         counts = (self._metrics.counts[f"arena_{name}_total"] for name in ("frames", "late_frames", "joins", "moves"))
         said = "{} frames, {} late, {} joins, {} moves".format(*counts)
-        say(f"{said}; milliseconds from when a frame was due until it was sent: {times}")
+        if self._metrics.counts["arena_frames_total"]:
+            say(f"{said}; milliseconds from when a frame was due until it was sent: {times}")
         return await tell_verdicts(self._judging)
 
 

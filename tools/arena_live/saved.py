@@ -16,6 +16,9 @@ import arena
 
 MOST_FRAMES = 100_000
 NAME = re.compile(r"match(-[0-9]{1,7})?")
+# The last lines of a recording and of its output, with the end of the line before.
+LAST_OF_RECORDING, LAST_OF_OUTPUT = re.compile(rb"\nend\n\Z"), re.compile(rb"\nend [0-9]{1,6}\n\Z")
+MOST_LAST = 16  # bytes
 MOST_SETTINGS = 1000  # bytes
 # Why a file of a match isn't opened, by what the system says then.
 NOT_OPENED = {errno.ELOOP: "is a link", errno.EISDIR: "isn't a plain file", errno.ENXIO: "isn't a plain file"}
@@ -142,6 +145,14 @@ class Saved:
         except (ValueError, TypeError, RecursionError):
             raise SaveFault(f"{folder} has no match: match.json isn't one of `tools/live`") from None
 
+    def is_over(self) -> bool:
+        """Whether the recording has its line `end`."""
+        return _ends_with(self.recording_path, LAST_OF_RECORDING)
+
+    def is_answered(self) -> bool:
+        """Whether the output has its line `end K`, so that nothing is missing that the program answered."""
+        return _ends_with(self.output_path, LAST_OF_OUTPUT)
+
     @staticmethod
     def opening(map_lines: Sequence[bytes]) -> bytes:
         return b"".join(line + b"\n" for line in [*map_lines, b"frame"])
@@ -176,6 +187,12 @@ class Saved:
         for file in (self._recording, self._output, self._lock):
             if file is not None:
                 file.close()
+
+
+def _ends_with(path: str, last: "re.Pattern[bytes]") -> bool:
+    with open_plain(path, "rb") as file:
+        file.seek(max(0, file.seek(0, os.SEEK_END) - MOST_LAST))
+        return last.search(file.read()) is not None
 
 
 def _locked(folder: str) -> BinaryIO:

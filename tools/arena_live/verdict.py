@@ -1,6 +1,5 @@
 """Whether a saved match is right: the program's command `audit` judges its log, of any length and any number of workers."""
 import asyncio
-import os
 from contextlib import suppress
 from dataclasses import dataclass
 from typing import BinaryIO, Iterable
@@ -10,7 +9,6 @@ from arena_live.pipe import close_input
 from arena_live.saved import Saved, SaveFault, open_plain
 
 CHUNK = 1 << 20
-END = b"\nend\n"
 RIGHT, WRONG, NOT_JUDGED = "right", "wrong", "not judged"
 
 
@@ -25,19 +23,16 @@ class Verdict:
 
 async def judge(program: str, saved: Saved) -> Verdict:
     try:
-        if not _is_over(saved):
+        if not saved.is_over():
             return Verdict(NOT_JUDGED, f"the match isn't over: {saved.recording_path} has no line `end` yet")
+        if not saved.is_answered():
+            lacking = f"{saved.output_path} has no line `end` yet; `--resume {saved.folder}` adds what it lacks"
+            return Verdict(NOT_JUDGED, lacking)
         return await _judged(program, saved)
     except SaveFault as why:
         return Verdict(NOT_JUDGED, str(why))
     except OSError as why:
         return Verdict(NOT_JUDGED, f"{why.filename or program}: {why.strerror}")
-
-
-def _is_over(saved: Saved) -> bool:
-    with open_plain(saved.recording_path, "rb") as recording:
-        recording.seek(max(0, recording.seek(0, os.SEEK_END) - len(END)))
-        return recording.read() == END
 
 
 async def _judged(program: str, saved: Saved) -> Verdict:
