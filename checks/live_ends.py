@@ -1,11 +1,16 @@
-"""How the front ends where it isn't by its clock, for `checks/live`: by kills in the last frame, and folders that lead
-elsewhere."""
+"""How the front ends where it isn't by its clock, for `checks/live`: by signals, kills in the last frame, and folders
+that lead elsewhere."""
+import contextlib
+import fcntl
 import json
 import os
+import pty
 import shutil
+import signal
 import subprocess
 import sys
 import tempfile
+import termios
 import time
 
 from common import PROGRAM
@@ -119,6 +124,129 @@ def links_to_nothing(whole, outside):
         want(status == 2 and "Traceback" not in text, f"a link {name} where a match is saved: status {status}, {text}")
 
 
+# Signals.
+
+
+def program_that(path, script):
+    """A program that is the real one but for this line of a shell before it."""
+    put(f"#!/bin/sh\n{script}\nexec '{PROGRAM}' \"$@\"\n".encode(), path)
+    os.chmod(path, 0o755)
+    return path
+
+
+def signals():
+    """A signal ends the front in a sentence at every moment, and a match with its line `end` and a verdict."""
+    with tempfile.TemporaryDirectory(prefix="live-") as top:
+        moments = {signal.SIGINT: stopped_before, signal.SIGTERM: stopped_resuming, signal.SIGHUP: stopped_judging}
+        for number, stopped in moments.items():
+            name = os.path.join(top, number.name)
+            with Front(MAP, "--hz", "100", "--bots", "2", "--save", name) as front:
+                time.sleep(0.3)
+                text, status = front.end(number)
+            is_over = bytes_of(name, "match.demo").endswith(b"\nend\n")
+            is_right = is_over and "live: right:" in text
+            want(status == 0 and is_right, f"{number.name} in a match: status {status}, {text}")
+            stopped(name, number)
+        closed_terminal(os.path.join(top, "terminal"))
+        stopped_rewriting(os.path.join(top, "long"))
+    print("killed: signals before, in and after a match, and a closed terminal, end it in a sentence")
+
+
+def stopped_before(name, number):
+    """While the map is read, from a pipe that says nothing."""
+    os.mkfifo(name + ".map")
+    run = begun(name + ".map")
+    writer = []
+
+    def is_read():
+        with contextlib.suppress(OSError):
+            writer.append(os.open(name + ".map", os.O_WRONLY | os.O_NONBLOCK))
+        return writer
+
+    until(is_read, "the map isn't read")
+    time.sleep(0.1)
+    run.send_signal(number)
+    text, status = ended(run, 10)
+    os.close(writer[0])
+    is_said = text == "live: it was stopped before it began\n"
+    want(status == 4 and is_said, f"{number.name} while the map is read: status {status}, {text}")
+
+
+def children_of(process):
+    with contextlib.suppress(OSError):
+        with open(f"/proc/{process.pid}/task/{process.pid}/children", encoding="ascii") as file:
+            return file.read().split()
+    return []
+
+
+def stopped_resuming(name, number):
+    """A match that a signal meets while it is resumed can be resumed again."""
+    folder = name + "-cut"
+    shutil.copytree(name, folder)
+    demo = bytes_of(folder, "match.demo")
+    put(demo[: demo.rindex(b"frame\n") + 6], folder, "match.demo")
+    put(b"", folder, "match.out")
+    run = begun("--resume", folder, program=program_that(name + "-slow", "exec sleep 60"))
+    until(lambda: children_of(run), "the program isn't started")
+    time.sleep(0.1)
+    run.send_signal(number)
+    text, status = ended(run, 10)
+    is_said = text.count("\n") == 1 and f"`--resume {folder}`" in text
+    want(status == 3 and is_said, f"{number.name} while a match is resumed: status {status}, {text}")
+    text, status = ended(begun("--resume", folder, "--frames", "1"))
+    want(status == 0 and "live: right:" in text, f"resumed after {number.name}: status {status}, {text}")
+
+
+def stopped_judging(name, number):
+    """A second signal leaves a match unjudged, and one that is judged later too."""
+    slow = program_that(name + "-slow", '[ "$1" = audit ] && exec sleep 60')
+    for words in ([MAP, "--frames", "3", "--hz", "100", "--save", name + "-unjudged"], ["--judge", name]):
+        run = begun(*words, program=slow)
+        lines = []
+        while not lines or lines[-1] and "it is judged" not in lines[-1]:
+            lines.append(run.stdout.readline())
+        run.send_signal(number)
+        text, status = ended(run, 10)
+        is_said = text == "live: not judged: it was stopped\n"
+        want(status == 4 and is_said, f"{number.name} while it judges: status {status}, {text}")
+
+
+def closed_terminal(folder):
+    """A match whose terminal is closed ends with its line `end` and a verdict, though nothing can be said any more."""
+    ours, theirs = pty.openpty()
+    files = dict.fromkeys(("stdin", "stdout", "stderr"), theirs)
+    words = [MAP, "--hz", "100", "--save", folder]
+    run = begun(*words, **files, start_new_session=True, preexec_fn=lambda: fcntl.ioctl(0, termios.TIOCSCTTY, 0))
+    os.close(theirs)
+    said = b""
+    while b"Control-C" not in said:
+        said += os.read(ours, 1000)
+    os.close(ours)
+    _, status = ended(run)
+    is_over = bytes_of(folder, "match.demo").endswith(b"\nend\n")
+    want(status == 0 and is_over, f"a match whose terminal is closed: status {status}, its end is written: {is_over}")
+
+
+def idle(folder, frames, workers, closing=b""):
+    """A saved match in which nobody plays, with this after its last line `frame`."""
+    os.mkdir(folder)
+    lines = bytes_of(MAP).removesuffix(b"end\n")
+    put(lines + b"frame\n" * frames + closing, folder, "match.demo")
+    put(b"".join(b"frame %d\n" % number for number in range(frames - 1)), folder, "match.out")
+    put(json.dumps({"workers": workers, "hz": 100, "name": "match"}).encode(), folder, "match.json")
+
+
+def stopped_rewriting(folder):
+    """A match of several workers, which is written anew when it is resumed: that can be stopped too."""
+    idle(folder, 100_000, 3)
+    run = begun("--resume", folder)
+    until(lambda: os.path.exists(os.path.join(folder, "match-2.demo")), "a match isn't written anew")
+    run.send_signal(signal.SIGTERM)
+    text, status = ended(run)
+    is_as_before = json.loads(bytes_of(folder, "match.json"))["name"] == "match"
+    want(status == 3 and is_as_before, f"SIGTERM while a match is written anew: status {status}, {text}")
+
+
 # The last frame.
 
 
@@ -175,15 +303,6 @@ def unlike(whole):
     folder = copied(whole, "unlike", demo, out[:-60].replace(b"\nto 0 ", b"\nto 1 ", 1))
     text, status = ended(begun("--resume", folder))
     want(status == 2 and "isn't what the program answers" in text, f"a changed output: status {status}, {text}")
-
-
-def idle(folder, frames, workers, closing=b""):
-    """A saved match in which nobody plays, with this after its last line `frame`."""
-    os.mkdir(folder)
-    lines = bytes_of(MAP).removesuffix(b"end\n")
-    put(lines + b"frame\n" * frames + closing, folder, "match.demo")
-    put(b"".join(b"frame %d\n" % number for number in range(frames - 1)), folder, "match.out")
-    put(json.dumps({"workers": workers, "hz": 100, "name": "match"}).encode(), folder, "match.json")
 
 
 def longest_match(top):
