@@ -1,5 +1,5 @@
-"""How the front ends where it isn't by its clock, for `checks/live`: by signals, kills in the last frame, and folders
-that lead elsewhere."""
+"""How the front ends where it isn't by its clock, for `checks/live`: by signals, kills in the last frame, faults of its
+own, and folders that lead elsewhere."""
 import contextlib
 import fcntl
 import json
@@ -7,14 +7,16 @@ import os
 import pty
 import shutil
 import signal
+import socket
 import subprocess
 import sys
 import tempfile
 import termios
 import time
 
-from common import PROGRAM
+from common import PROGRAM, TOOLS
 from live import LIVE, MAP, Front, want
+from live_hostile import page_socket
 
 PORTS = ["--http", "0", "--udp", "0"]
 
@@ -314,3 +316,62 @@ def longest_match(top):
         text, status = front.end()
     is_right = "right: `audit` says: right frames 100000 moves 0" in text
     want(status == 0 and is_right and text.count("right:") == 2, f"a match of 100,000 frames: status {status}, {text}")
+
+
+# Faults of the front.
+
+# The front with faults: in each message `fault`, in what bots do from frame 20 on, and in the frame of this number.
+FAULTY = """
+import sys
+sys.dont_write_bytecode = True
+sys.path.insert(0, {tools!r})
+from arena_live import bots, main, match, sessions
+
+def plant(owner, name, is_faulty):
+    real = getattr(owner, name)
+    def act(self, *given):
+        return len(None) if is_faulty(*given) else real(self, *given)
+    act.__code__ = act.__code__.replace(co_filename={tools!r} + "/planted-" + name)
+    setattr(owner, name, act)
+
+plant(sessions.Sessions, "receive", lambda address, data, now: data[16:] == b"fault")
+plant(bots.Bot, "_act", lambda seen: seen.frame >= 20)
+plant(match.Match, "_told", lambda frame, events: frame.number == {frame})
+sys.exit(main.main())
+"""
+LINE = next(number for number, line in enumerate(FAULTY.splitlines(), 1) if "len(None)" in line)
+SAID = "a fault of the front: TypeError in planted-{}, line %d" % LINE
+
+
+def faults():
+    """A fault in what a client or a bot does is told once, and the match goes on; one of a frame breaks it off."""
+    with tempfile.TemporaryDirectory(prefix="live-") as top:
+        folder, script = os.path.join(top, "match"), os.path.join(top, "faulty.py")
+        put(FAULTY.format(tools=TOOLS, frame=60).encode(), script)
+        with Front(MAP, "--save", folder + "-clients", script=script) as front:
+            faulty_messages(front)
+            count = front.metrics()["arena_faults_total"]
+            text, status = front.end()
+        want(status == 0 and "live: right:" in text, f"faults in what clients do: status {status}, {text}")
+        is_told = text.count(f"live: {SAID.format('receive')}\n") == text.count("fault") == 1
+        want(is_told and count == 4, f"of 4 faults of a kind {count} are counted, and not one is told: {text}")
+        with Front(MAP, "--hz", "50", "--bots", "2", "--save", folder, script=script) as front:
+            text, status = front.end(None)
+        told = (f"live: {SAID.format('_act')}\n", f"live: it broke off: {SAID.format('_told')}; `--resume {folder}`")
+        is_told = all(text.count(one) == 1 for one in told) and "60 frames" in text and "Traceback" not in text
+        want(status == 3 and is_told, f"faults of bots and of frame 60: status {status}, {text}")
+        text, status = ended(begun("--resume", folder, "--frames", "70"))
+        is_right = "right: `audit` says: right frames 70 " in text
+        want(status == 0 and is_right, f"resumed after a fault: status {status}, {text}")
+
+
+def faulty_messages(front):
+    """Three by UDP and one by a page; the match goes on by its clock."""
+    with socket.socket(socket.AF_INET, socket.SOCK_DGRAM) as link, page_socket(front) as page:
+        for _ in range(3):
+            link.sendto(bytes(15) + b"1fault", ("127.0.0.1", front.udp))
+        page.recv(4096)
+        page.sendall(b"\x82\x95\0\0\0\0" + bytes(16) + b"fault")
+        time.sleep(0.2)
+        before = front.metrics()["arena_frames_total"]
+        until(lambda: front.metrics()["arena_frames_total"] > before + 10, "after a fault the match doesn't go on")

@@ -19,6 +19,7 @@ from typing import Awaitable, Callable, Iterable, List, Optional, TextIO, Tuple
 import arena
 import program
 from arena_live.bots import Bots
+from arena_live.faults import Faults, sentence_of
 from arena_live.match import Arena, Match
 from arena_live.metrics import Metrics
 from arena_live.pipe import ProgramEnded
@@ -123,8 +124,8 @@ def ignore_signals() -> None:
 class Live:
     """A run of the front: matches one after another, on the same sockets. Without a map it goes on with a saved one."""
 
-    def __init__(self, words: argparse.Namespace, ground: Optional[Arena]):
-        self._words, self._ground, self._metrics = words, ground, Metrics()
+    def __init__(self, words: argparse.Namespace, ground: Optional[Arena], metrics: Metrics):
+        self._words, self._ground, self._metrics = words, ground, metrics
         self._stop = asyncio.Event()
         self._folder = words.resume or words.save
         self._judging: List[asyncio.Task] = []
@@ -136,8 +137,10 @@ class Live:
                 await self._go_on()
             else:
                 await self._serve(self._ground, Sessions(self._metrics, self._words.hz), None)
-        except BrokenOff as why:
-            say(f"it broke off: {why}")
+        except (Misuse, SaveFault, ProgramEnded, arena.FormatError):
+            raise
+        except Exception as why:
+            say(f"it broke off: {why if isinstance(why, BrokenOff) else sentence_of(why)}")
             await self._report()
             return BROKEN_OFF
         return await self._report()
@@ -234,8 +237,9 @@ class Live:
     async def _play_one(self, match: Match, most: int) -> None:
         try:
             await match.run(self._stop, most)
-        except (ProgramEnded, SaveFault) as why:
-            raise BrokenOff(f"{why}; `--resume {match.saved.folder}` goes on with what was saved") from None
+        except Exception as why:
+            said = str(why) if isinstance(why, (ProgramEnded, SaveFault)) else sentence_of(why)
+            raise BrokenOff(f"{said}; `--resume {match.saved.folder}` goes on with what was saved") from None
 
     async def _report(self) -> int:
         parts = {"median": 0.5, "99th": 0.99, "worst": 1}
@@ -313,11 +317,13 @@ def begin() -> int:
     why = why_not(words) or (program.unreadable(words.map) if words.map is not None else None)
     if why is not None:
         raise Misuse(why)
+    metrics = Metrics()
+    Faults(metrics, say)
     if words.judge is not None:
         return asyncio.run(judge_saved(words.judge))
     # The map is read before there is a loop, which would hear no signal while a pipe has the front wait for it.
     ground = read_ground(words.map) if words.map is not None else None
-    return asyncio.run(Live(words, ground).run())
+    return asyncio.run(Live(words, ground, metrics).run())
 
 
 def main() -> int:
@@ -333,5 +339,8 @@ def main() -> int:
         ignore_signals()
         say("it was stopped before it began")
         return UNJUDGED
+    except Exception as fault:
+        complain(sentence_of(fault))
+        return BROKEN_OFF
     finally:
         ignore_signals()

@@ -5,6 +5,7 @@ from dataclasses import dataclass
 from typing import BinaryIO, Iterable
 
 import arena
+from arena_live.faults import sentence_of
 from arena_live.pipe import close_input
 from arena_live.saved import Saved, SaveFault, open_plain
 
@@ -33,6 +34,8 @@ async def judge(program: str, saved: Saved) -> Verdict:
         return Verdict(NOT_JUDGED, str(why))
     except OSError as why:
         return Verdict(NOT_JUDGED, f"{why.filename or program}: {why.strerror}")
+    except Exception as why:
+        return Verdict(NOT_JUDGED, sentence_of(why))
 
 
 async def _judged(program: str, saved: Saved) -> Verdict:
