@@ -1,5 +1,6 @@
 """How the front ends where it isn't by its clock, for `checks/live`: by signals, kills in the last frame, faults of its
 own, and folders that lead elsewhere."""
+import atexit
 import contextlib
 import fcntl
 import json
@@ -22,10 +23,12 @@ PORTS = ["--http", "0", "--udp", "0"]
 
 
 def begun(*words, program=PROGRAM, **more):
-    """A run of the front of which nothing is known to be said."""
+    """A run of the front that may end at once. None is left where the check ends before it."""
     pipes = {"stdout": subprocess.PIPE, "stderr": subprocess.PIPE, "text": True, **more}
     command = [sys.executable, LIVE, *words, *PORTS]
-    return subprocess.Popen(command, env={**os.environ, "ARENA_CLI": program}, **pipes)
+    process = subprocess.Popen(command, env={**os.environ, "ARENA_CLI": program}, **pipes)
+    atexit.register(process.kill)
+    return process
 
 
 def ended(process, seconds=30):
