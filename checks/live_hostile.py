@@ -307,7 +307,8 @@ def try_hostile(words):
             text, status = front.end()
         late = counts["arena_late_frames_total"]
         want(status == 0 and text.count("live: right:") >= 2, f"status {status}, {text}")
-        want(all(line.startswith("live: ") for line in text.splitlines()), f"the operator is shown {text[:2000]}")
+        is_quiet = all(line.startswith("live: ") for line in text.splitlines()) and "fault" not in text
+        want(is_quiet, f"the operator is shown {text[:2000]}")
         want(late < 20, f"{late} frames are late")
         folders_of_others(top)
         print(f"hostile: bad requests, floods and held connections: {late:.0f} late frames, and each match is right")

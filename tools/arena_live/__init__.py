@@ -11,6 +11,7 @@
     events     joins, leaves, items, hits and scores, from the lines of a frame
     verdict    whether a saved match is right
     metrics    what /metrics shows
+    faults     exceptions that nobody awaits
 
 docs/LIVE.md has the messages between a client and the front, and why each part is as it is.
 """

@@ -65,7 +65,7 @@ class Ways:
 
 
 class Bot:
-    """One player. `take` is called with each message of the front."""
+    """One player. `take` is called with each message of the front; a fault of the bot isn't one of the frame."""
 
     def __init__(self, number: int, sessions: Sessions, ground: Arena, ways: Ways):
         hz = sessions.hz
@@ -85,6 +85,12 @@ class Bot:
         self._sessions.open(self.address, "bot", self.take, monotonic())
 
     def take(self, message: bytes) -> None:
+        try:
+            self._take(message)
+        except Exception as why:
+            asyncio.get_running_loop().call_exception_handler({"message": "a bot", "exception": why})
+
+    def _take(self, message: bytes) -> None:
         kind, body = message[:1], message[1:]
         if kind == WELCOME:
             self._token, self._number, self._way = body[:TOKEN_BYTES], 0, []

@@ -4,7 +4,7 @@ The program plays; this stands between it and the players' sockets, saves what c
 end prints whether the one is right for the other. docs/LIVE.md has how, and what a client must know.
 
 statuses: 0 each match is right; 1 one is wrong; 2 the words, the map or the folder can't be used; 3 a match broke off,
-and `--resume` goes on with it; 4 one wasn't judged.
+and `--resume` goes on with it; 4 one wasn't judged, or the front was stopped before one began.
 """
 import argparse
 import asyncio
@@ -14,15 +14,16 @@ import signal
 import subprocess
 import sys
 import tempfile
-from typing import Awaitable, Callable, Iterable, List, Optional, Tuple
+from typing import Awaitable, Callable, Iterable, List, Optional, TextIO, Tuple
 
 import arena
 import program
 from arena_live.bots import Bots
+from arena_live.faults import Faults, sentence_of
 from arena_live.match import Arena, Match
 from arena_live.metrics import Metrics
 from arena_live.pipe import ProgramEnded
-from arena_live.resume import resume
+from arena_live.resume import Start, resume
 from arena_live.saved import MOST_FRAMES, Saved, SaveFault, Settings, read_map
 from arena_live.sessions import Sessions
 from arena_live.udp import Udp
@@ -35,6 +36,8 @@ except ImportError:
 
 # What the program may take to answer a map.
 SECONDS = 60
+# What asks the front to end: Control-C, `kill`, and a terminal that is closed.
+SIGNALS = (signal.SIGINT, signal.SIGTERM, signal.SIGHUP)
 ALL_RIGHT, ONE_WRONG, MISUSED, BROKEN_OFF, UNJUDGED = range(5)
 
 
@@ -88,7 +91,7 @@ def say(text: str) -> None:
     try:
         print(f"live: {program.shown(text)}", flush=True)
     except OSError as why:
-        os.dup2(os.open(os.devnull, os.O_WRONLY), sys.stdout.fileno())
+        silence(sys.stdout)
         complain(f"no line can be written any more: {program.sentence_of(why)[0]}; the status says how it ended")
 
 
@@ -97,45 +100,79 @@ def complain(text: str) -> None:
     try:
         print(f"live: {program.shown(text)}", file=sys.stderr, flush=True)
     except OSError:
-        os.dup2(os.open(os.devnull, os.O_WRONLY), sys.stderr.fileno())
+        silence(sys.stderr or sys.stdout)
+
+
+def silence(file: TextIO) -> None:
+    """What is written there from now on, and what still waits to be, goes nowhere."""
+    os.dup2(os.open(os.devnull, os.O_WRONLY), file.fileno())
+
+
+def catch_signals(act: Callable[[], None]) -> None:
+    """Has the signals do this from now on. One that is ignored, as by `nohup`, remains so."""
+    for number in SIGNALS:
+        if number != signal.SIGHUP or signal.getsignal(number) is not signal.SIG_IGN:
+            asyncio.get_running_loop().add_signal_handler(number, act)
+
+
+def ignore_signals() -> None:
+    """All is said, so that a signal that comes now changes nothing."""
+    for number in SIGNALS:
+        signal.signal(number, signal.SIG_IGN)
 
 
 class Live:
-    """A run of the front: matches one after another, on the same sockets."""
+    """A run of the front: matches one after another, on the same sockets. Without a map it goes on with a saved one."""
 
-    def __init__(self, words: argparse.Namespace):
-        self._words, self._metrics = words, Metrics()
+    def __init__(self, words: argparse.Namespace, ground: Optional[Arena], metrics: Metrics):
+        self._words, self._ground, self._metrics = words, ground, metrics
         self._stop = asyncio.Event()
         self._folder = words.resume or words.save
         self._judging: List[asyncio.Task] = []
 
     async def run(self) -> int:
         try:
-            await self._serve_all()
-        except BrokenOff as why:
-            say(f"it broke off: {why}")
+            catch_signals(self._stop.set)
+            if self._ground is None:
+                await self._go_on()
+            else:
+                await self._serve(self._ground, Sessions(self._metrics, self._words.hz), None)
+        except (Misuse, SaveFault, ProgramEnded, arena.FormatError):
+            raise
+        except Exception as why:
+            say(f"it broke off: {why if isinstance(why, BrokenOff) else sentence_of(why)}")
             await self._report()
             return BROKEN_OFF
         return await self._report()
 
-    async def _serve_all(self) -> None:
-        words = self._words
-        for number in (signal.SIGINT, signal.SIGTERM):
-            asyncio.get_running_loop().add_signal_handler(number, self._stop.set)
-        if words.resume is not None:
-            resumed = await resume(words.resume, program.PROGRAM)
-            try:
-                ground = Arena(*read_map(resumed.saved.recording_path), program.PROGRAM)
-                sessions = Sessions(self._metrics, resumed.saved.settings.hz)
-                say(f"resumed at frame {resumed.frame}")
-                await self._serve(ground, sessions, lambda: Match(ground, sessions, self._metrics, resumed))
-            finally:
-                await resumed.pipe.kill()
-        else:
-            ground = Arena(*read_map(words.map), program.PROGRAM)
-            refuse_bad_map(words.map, ground)
-            sessions = Sessions(self._metrics, words.hz)
-            await self._serve(ground, sessions, None)
+    async def _go_on(self) -> None:
+        """Goes on with a saved match, or judges it where it was killed while it ended."""
+        resumed = await self._resumed()
+        try:
+            if resumed.is_over:
+                resumed.saved.close()
+                say(f"the match was over; {resumed.saved.output_path} has now what it lacked")
+                self._judging.append(asyncio.create_task(judge(program.PROGRAM, resumed.saved)))
+                return
+            ground = Arena(*read_map(resumed.saved.recording_path), program.PROGRAM)
+            sessions = Sessions(self._metrics, resumed.saved.settings.hz)
+            say(f"resumed at frame {resumed.frame}")
+            await self._serve(ground, sessions, lambda: Match(ground, sessions, self._metrics, resumed))
+        finally:
+            await resumed.pipe.kill()
+
+    async def _resumed(self) -> Start:
+        """The match of the folder. A signal that comes meanwhile leaves it as it was, for another time."""
+        resuming = asyncio.create_task(resume(self._folder, program.PROGRAM))
+        stopping = asyncio.create_task(self._stop.wait())
+        await asyncio.wait((resuming, stopping), return_when=asyncio.FIRST_COMPLETED)
+        stopping.cancel()
+        if not resuming.done():
+            resuming.cancel()
+            await asyncio.wait((resuming,))
+        if resuming.cancelled():
+            raise BrokenOff(f"it was stopped while it resumed; `--resume {self._folder}` goes on with what was saved")
+        return resuming.result()
 
     async def _serve(self, ground: Arena, sessions: Sessions, go_on: Optional[Callable[[], Match]]) -> None:
         """Listens, plays, and says goodbye to all."""
@@ -163,7 +200,7 @@ class Live:
         folder = self._folder
         if self._judging:
             numbered = (f"{self._folder.rstrip('/')}-{number}" for number in itertools.count(2))
-            folder = next(folder for folder in numbered if not os.path.exists(folder))
+            folder = next(folder for folder in numbered if not os.path.lexists(folder))
         saved = Saved.create(folder, ground.lines, Settings(self._words.workers, sessions.hz))
         return await Match.begin(ground, sessions, self._metrics, saved)
 
@@ -200,25 +237,26 @@ class Live:
     async def _play_one(self, match: Match, most: int) -> None:
         try:
             await match.run(self._stop, most)
-        except (ProgramEnded, SaveFault) as why:
-            raise BrokenOff(f"{why}; `--resume {match.saved.folder}` goes on with what was saved") from None
+        except Exception as why:
+            said = str(why) if isinstance(why, (ProgramEnded, SaveFault)) else sentence_of(why)
+            raise BrokenOff(f"{said}; `--resume {match.saved.folder}` goes on with what was saved") from None
 
     async def _report(self) -> int:
         parts = {"median": 0.5, "99th": 0.99, "worst": 1}
         times = ", ".join(f"{name} {1000 * self._metrics.quantile(part):.1f}" for name, part in parts.items())
         counts = (self._metrics.counts[f"arena_{name}_total"] for name in ("frames", "late_frames", "joins", "moves"))
         said = "{} frames, {} late, {} joins, {} moves".format(*counts)
-        say(f"{said}; milliseconds from when a frame was due until it was sent: {times}")
+        if self._metrics.counts["arena_frames_total"]:
+            say(f"{said}; milliseconds from when a frame was due until it was sent: {times}")
         return await tell_verdicts(self._judging)
 
 
 async def tell_verdicts(judging: Iterable[Awaitable[Verdict]]) -> int:
     """Waits for the verdicts and prints them: the status of the run."""
     judged = asyncio.gather(*judging)
+    catch_signals(judged.cancel)
     if not judged.done():
         say("it is judged; Control-C leaves it unjudged")
-    for number in (signal.SIGINT, signal.SIGTERM):
-        asyncio.get_running_loop().add_signal_handler(number, judged.cancel)
     try:
         verdicts = await judged
     except asyncio.CancelledError:
@@ -260,23 +298,49 @@ def why_not(words: argparse.Namespace) -> Optional[str]:
     return program.lacking()
 
 
-def main() -> int:
+def read_ground(path: str) -> Arena:
+    """The map that is to be played on, once the program has taken it."""
+    ground = Arena(*read_map(path), program.PROGRAM)
+    refuse_bad_map(path, ground)
+    return ground
+
+
+def begin() -> int:
+    """Does what the words ask for, and gives the status."""
     if sys.stdout is not None:
         sys.stdout.reconfigure(errors="backslashreplace", line_buffering=True)
     try:
         words = read_words()
     except OSError as fault:  # where the help can't be written
-        os.dup2(os.open(os.devnull, os.O_WRONLY), sys.stdout.fileno())
-        print(f"live: {program.sentence_of(fault)[0]}", file=sys.stderr)
-        return MISUSED
+        silence(sys.stdout)
+        raise Misuse(program.sentence_of(fault)[0]) from None
+    why = why_not(words) or (program.unreadable(words.map) if words.map is not None else None)
+    if why is not None:
+        raise Misuse(why)
+    metrics = Metrics()
+    Faults(metrics, say)
+    if words.judge is not None:
+        return asyncio.run(judge_saved(words.judge))
+    # The map is read before there is a loop, which would hear no signal while a pipe has the front wait for it.
+    ground = read_ground(words.map) if words.map is not None else None
+    return asyncio.run(Live(words, ground, metrics).run())
+
+
+def main() -> int:
+    for number in SIGNALS:
+        if signal.getsignal(number) is not signal.SIG_IGN:
+            signal.signal(number, program.stop)
     try:
-        why = why_not(words) or (program.unreadable(words.map) if words.map is not None else None)
-        if why is not None:
-            raise Misuse(why)
-        return asyncio.run(judge_saved(words.judge) if words.judge is not None else Live(words).run())
+        return begin()
     except (Misuse, SaveFault, ProgramEnded, arena.FormatError) as fault:
         complain(str(fault))
         return MISUSED
     except KeyboardInterrupt:
-        say("not judged: it was stopped")
+        ignore_signals()
+        say("it was stopped before it began")
         return UNJUDGED
+    except Exception as fault:
+        complain(sentence_of(fault))
+        return BROKEN_OFF
+    finally:
+        ignore_signals()

@@ -48,6 +48,7 @@ class Metrics:
             "arena_bytes_out_total": "Bytes of messages to clients.",
             "arena_dropped_messages_total": "Messages that a slow page, or a full socket, didn't take.",
             "arena_unshown_total": "Faults in connections, as requests of another form, which nobody is shown.",
+            "arena_faults_total": "Faults of the front itself, each kind of which is told once.",
         }
         for name, text in helps.items():
             yield from (f"# HELP {name} {text}", f"# TYPE {name} counter", f"{name} {self.counts[name]}")

@@ -3,10 +3,12 @@
 A frame's packets are in the recording before the program gets them, and its text is in the output before a client sees
 anything of it. Both are handed to the system at once, so they outlive the front and the program, but no loss of power.
 """
+import errno
 import fcntl
 import json
 import os
 import re
+import stat
 from dataclasses import asdict, dataclass
 from typing import BinaryIO, List, Sequence, Tuple
 
@@ -14,6 +16,12 @@ import arena
 
 MOST_FRAMES = 100_000
 NAME = re.compile(r"match(-[0-9]{1,7})?")
+# The last lines of a recording and of its output, with the end of the line before.
+LAST_OF_RECORDING, LAST_OF_OUTPUT = re.compile(rb"\nend\n\Z"), re.compile(rb"\nend [0-9]{1,6}\n\Z")
+MOST_LAST = 16  # bytes
+MOST_SETTINGS = 1000  # bytes
+# Why a file of a match isn't opened, by what the system says then.
+NOT_OPENED = {errno.ELOOP: "is a link", errno.EISDIR: "isn't a plain file", errno.ENXIO: "isn't a plain file"}
 
 
 class SaveFault(Exception):
@@ -61,6 +69,29 @@ def frame_text(arrivals: Sequence[Tuple[int, bytes]], closing: bytes) -> bytes:
     return b"".join(lines) + closing + b"\n"
 
 
+def open_plain(path: str, mode: str, buffering: int = -1) -> BinaryIO:
+    """Opens a file of a match, where it is one: its folder may hold what anybody put there.
+
+    A link leads elsewhere, as does another name of a file that is written; and a pipe would keep the front waiting.
+    """
+    return open(path, mode, buffering, opener=_open_checked)
+
+
+def _open_checked(path: str, flags: int) -> int:
+    try:
+        number = os.open(path, flags | os.O_NOFOLLOW | os.O_NONBLOCK, 0o666)
+    except OSError as why:
+        if why.errno not in NOT_OPENED:
+            raise
+        raise SaveFault(f"{path} {NOT_OPENED[why.errno]}") from None
+    about, is_written = os.fstat(number), flags & os.O_ACCMODE != os.O_RDONLY
+    if stat.S_ISREG(about.st_mode) and not (is_written and about.st_nlink > 1):
+        return number
+    os.close(number)
+    why = "has another name, so it isn't written" if stat.S_ISREG(about.st_mode) else "isn't a plain file"
+    raise SaveFault(f"{path} {why}")
+
+
 class Saved:
     """An open folder of a match, held by this process alone."""
 
@@ -69,13 +100,18 @@ class Saved:
         self._lock = _locked(folder)
         self._recording = self._output = None
 
+    def paths(self, name: str) -> Tuple[str, str]:
+        """A recording of this name, and its output."""
+        path = os.path.join(self.folder, name)
+        return path + ".demo", path + ".out"
+
     @property
     def recording_path(self) -> str:
-        return os.path.join(self.folder, self.settings.name + ".demo")
+        return self.paths(self.settings.name)[0]
 
     @property
     def output_path(self) -> str:
-        return os.path.join(self.folder, self.settings.name + ".out")
+        return self.paths(self.settings.name)[1]
 
     @classmethod
     def create(cls, folder: str, map_lines: Sequence[bytes], settings: Settings) -> "Saved":
@@ -83,10 +119,11 @@ class Saved:
         try:
             os.makedirs(folder, exist_ok=True)
             saved = cls(folder, settings)
-            if os.path.exists(os.path.join(folder, "match.json")):
+            if os.path.lexists(os.path.join(folder, "match.json")):
                 raise SaveFault(f"{folder} has a match already; `--resume {folder}` goes on with it")
-            if any(map(os.path.lexists, (saved.recording_path, saved.output_path))):
-                raise SaveFault(f"{folder} has a file match.demo or match.out already")
+            for name in ("match.demo", "match.out", "match.json.new"):
+                if os.path.lexists(os.path.join(folder, name)):
+                    raise SaveFault(f"{folder} has a file {name} already")
             saved.open("xb")
             saved.write_settings()
         except OSError as why:
@@ -98,13 +135,23 @@ class Saved:
     def reopen(cls, folder: str) -> "Saved":
         """The folder of a match that was saved before; `open` comes once its files are as they should be."""
         try:
-            with open(os.path.join(folder, "match.json"), encoding="ascii") as file:
-                settings = Settings(**json.load(file))
-            return cls(folder, settings)
+            with open_plain(os.path.join(folder, "match.json"), "rb") as file:
+                saved = cls(folder, Settings(**json.loads(file.read(MOST_SETTINGS))))
+            for path in filter(os.path.lexists, (saved.recording_path, saved.output_path)):
+                open_plain(path, "rb").close()  # so that nothing is changed where one of them is refused
+            return saved
         except OSError as why:
             raise SaveFault(f"{folder} has no match: {why.strerror}") from None
-        except (ValueError, TypeError):
+        except (ValueError, TypeError, RecursionError):
             raise SaveFault(f"{folder} has no match: match.json isn't one of `tools/live`") from None
+
+    def is_over(self) -> bool:
+        """Whether the recording has its line `end`."""
+        return _ends_with(self.recording_path, LAST_OF_RECORDING)
+
+    def is_answered(self) -> bool:
+        """Whether the output has its line `end K`, so that nothing is missing that the program answered."""
+        return _ends_with(self.output_path, LAST_OF_OUTPUT)
 
     @staticmethod
     def opening(map_lines: Sequence[bytes]) -> bytes:
@@ -112,14 +159,15 @@ class Saved:
 
     def write_settings(self) -> None:
         path = os.path.join(self.folder, "match.json")
-        with open(path + ".new", "w", encoding="ascii") as file:
-            json.dump(asdict(self.settings), file)
+        with open_plain(path + ".new", "ab") as file:
+            file.truncate(0)  # of a crash before
+            file.write(json.dumps(asdict(self.settings)).encode("ascii"))
         os.replace(path + ".new", path)
 
     def open(self, mode: str) -> None:
         # Unbuffered: what `write` has taken is the system's.
-        self._recording = open(self.recording_path, mode, buffering=0)
-        self._output = open(self.output_path, mode, buffering=0)
+        self._recording = open_plain(self.recording_path, mode, buffering=0)
+        self._output = open_plain(self.output_path, mode, buffering=0)
 
     def add_packets(self, text: bytes) -> None:
         self._write(self._recording, text)
@@ -141,8 +189,14 @@ class Saved:
                 file.close()
 
 
+def _ends_with(path: str, last: "re.Pattern[bytes]") -> bool:
+    with open_plain(path, "rb") as file:
+        file.seek(max(0, file.seek(0, os.SEEK_END) - MOST_LAST))
+        return last.search(file.read()) is not None
+
+
 def _locked(folder: str) -> BinaryIO:
-    file = open(os.path.join(folder, "lock"), "ab")
+    file = open_plain(os.path.join(folder, "lock"), "ab")
     try:
         fcntl.flock(file, fcntl.LOCK_EX | fcntl.LOCK_NB)
     except OSError:

@@ -1,16 +1,15 @@
 """Whether a saved match is right: the program's command `audit` judges its log, of any length and any number of workers."""
 import asyncio
-import os
 from contextlib import suppress
 from dataclasses import dataclass
 from typing import BinaryIO, Iterable
 
 import arena
+from arena_live.faults import sentence_of
 from arena_live.pipe import close_input
-from arena_live.saved import Saved
+from arena_live.saved import Saved, SaveFault, open_plain
 
 CHUNK = 1 << 20
-END = b"\nend\n"
 RIGHT, WRONG, NOT_JUDGED = "right", "wrong", "not judged"
 
 
@@ -25,17 +24,18 @@ class Verdict:
 
 async def judge(program: str, saved: Saved) -> Verdict:
     try:
-        if not _is_over(saved):
+        if not saved.is_over():
             return Verdict(NOT_JUDGED, f"the match isn't over: {saved.recording_path} has no line `end` yet")
+        if not saved.is_answered():
+            lacking = f"{saved.output_path} has no line `end` yet; `--resume {saved.folder}` adds what it lacks"
+            return Verdict(NOT_JUDGED, lacking)
         return await _judged(program, saved)
+    except SaveFault as why:
+        return Verdict(NOT_JUDGED, str(why))
     except OSError as why:
         return Verdict(NOT_JUDGED, f"{why.filename or program}: {why.strerror}")
-
-
-def _is_over(saved: Saved) -> bool:
-    with open(saved.recording_path, "rb") as recording:
-        recording.seek(max(0, recording.seek(0, os.SEEK_END) - len(END)))
-        return recording.read() == END
+    except Exception as why:
+        return Verdict(NOT_JUDGED, sentence_of(why))
 
 
 async def _judged(program: str, saved: Saved) -> Verdict:
@@ -74,7 +74,7 @@ async def _feed(process: asyncio.subprocess.Process, text: Iterable[bytes]) -> N
 
 def _log(saved: Saved) -> Iterable[bytes]:
     """The map and `end`, and then each frame of the output with its packets after its line `frame K`."""
-    with open(saved.recording_path, "rb") as recording, open(saved.output_path, "rb") as output:
+    with open_plain(saved.recording_path, "rb") as recording, open_plain(saved.output_path, "rb") as output:
         for line in recording:
             if line == b"frame\n":
                 break

@@ -1,7 +1,6 @@
 """The page, its socket, the map and the metrics, by HTTP."""
 import asyncio
 import itertools
-import logging
 import os
 import resource
 from contextlib import suppress
@@ -38,23 +37,8 @@ MOST_WAITING = 40
 MOST_RECEIVED = 64
 # Connections at once. Where the system grants few files, so many are for the match, and for connections that are refused.
 MOST_CONNECTIONS, LEAST_CONNECTIONS, OTHER_FILES = 400, 16, 160
-LOGGERS = ("aiohttp.access", "aiohttp.internal", "aiohttp.server", "aiohttp.web", "aiohttp.websocket", "asyncio")
 # Connections that are taken in a row.
 BACKLOG = 32
-
-
-class Unshown(logging.Handler):
-    """Counts what would be logged. Clients bring it about, as often as they like, and it has words of theirs in it.
-
-    So the operator isn't shown it, nor does the clock wait where nobody reads standard error.
-    """
-
-    def __init__(self, metrics: Metrics):
-        super().__init__(logging.WARNING)
-        self._metrics = metrics
-
-    def emit(self, _record: logging.LogRecord) -> None:
-        self._metrics.counts["arena_unshown_total"] += 1
 
 
 class Outbox:
@@ -100,9 +84,6 @@ class Web:
         for path in FILES:
             app.router.add_get(path, self._send_file)
         app.on_response_prepare.append(_add_headers)
-        for name in LOGGERS:
-            logger = logging.getLogger(name)
-            logger.handlers, logger.propagate = [Unshown(self._metrics)], False
         self._runner = web.AppRunner(app, access_log=None)
         await self._runner.setup()
         self._server = await asyncio.get_running_loop().create_server(self._connection, bind, port, backlog=BACKLOG)
